@@ -1,0 +1,4 @@
+pub mod Package
+pub mod Query
+pub mod Meaning
+pub mod Plain

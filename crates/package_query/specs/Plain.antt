@@ -1,0 +1,27 @@
+-- Plain queries, as the plain program computes them: a row is the list of its numbers, and a term the place of one.
+use Rattle.std.specs.Prelude.{◌≡◌, ℕ, ◌^◌, ◌<◌, ◌≤◌, List, [], ◌∷◌, length, map, ℤ, pos, Bool, true, Option, None, Some, slice_index_or}
+use Rattle.std.specs.Int.RustNames.{unsigned_abs}
+use Rattle.package_query.specs.Query.{Conjunct, Goal, PackageQuery}
+use Rattle.package_query.specs.declared.plain.PlainQuery.{PlainQuery}
+use Rattle.package_query.specs.declared.plain.PlainConjunct.{PlainConjunct}
+use Rattle.package_query.specs.declared.plain.PlainGoal.{PlainGoal}
+
+-- the number of a row at a place, and 0 past its end
+abbrev pub number_at : ℕ → List ℤ → ℤ
+number_at place row = slice_index_or row place (pos 0)
+
+-- the query that a plain one is
+abbrev pub conjunct_of : PlainConjunct → Conjunct (List ℤ)
+conjunct_of plain = record { terms = map number_at plain.terms; comparison = plain.comparison }
+
+abbrev pub goal_of : Option PlainGoal → Option (Goal (List ℤ))
+goal_of None = None
+goal_of (Some plain) = Some (record { maximize = plain.maximize; terms = map number_at plain.terms })
+
+abbrev pub query_of : PlainQuery → PackageQuery (List ℤ)
+query_of plain = record {
+  passes = λ (row : List ℤ). true;
+  repeat = Some plain.repeat;
+  conjuncts = map conjunct_of plain.conjuncts;
+  goal = goal_of plain.goal;
+}

@@ -1,0 +1,9 @@
+//! What a package query means: packages, totals, when a package meets a query, and which is best.
+//! The definitions are in `specs/`; the plain program computes them on small inputs.
+#![tactic(auto)]
+
+mod comparison;
+mod plain;
+
+pub use comparison::Comparison;
+pub use plain::{PlainConjunct, PlainGoal, PlainQuery};
