@@ -1,0 +1,10 @@
+use Rattle.std.proofs.Common.{length}
+use Rattle.paql.proofs.Turns.{IsWriting}
+use Rattle.paql.proofs.streams.put_all.Given as goal
+
+abbrev pub invariant-loop-rest : goal.invariant-loop-rest
+invariant-loop-rest g l = IsWriting (g.K.Sink.written l.fn.sink) (g.K.Sink.written l.sink)
+    (g.K.Sink.faults l.fn.sink) (g.K.Sink.faults l.sink) l.text l.rest
+
+abbrev pub decreases-loop-rest : goal.decreases-loop-rest
+decreases-loop-rest g l = length l.rest

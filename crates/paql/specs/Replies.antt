@@ -1,0 +1,23 @@
+-- The lines that answer a script: a JSON object each, with its keys in byte order, and a line feed.
+use Rattle.std.specs.Prelude.{ℕ, List, ◌++◌, length, ℤ, codes, decimal}
+use Rattle.std.specs.Fmt.{signed_decimal}
+use Rattle.paql.specs.Form.{joined}
+
+abbrev pub created_line : List ℕ
+created_line = codes "{\"status\":\"created\",\"version\":1}\n"
+
+abbrev pub inserted_line : ℕ → List ℕ
+inserted_line rows = codes "{\"rows\":" ++ (decimal rows ++ codes ",\"status\":\"inserted\",\"version\":2}\n")
+
+abbrev pub pair_text : ℕ × ℕ → List ℕ
+pair_text pair = codes "[" ++ (decimal pair.0 ++ (codes "," ++ (decimal pair.1 ++ codes "]")))
+
+abbrev pub optimal_line : ℤ → List (ℕ × ℕ) → List ℕ
+optimal_line objective pairs = codes "{\"objective\":\"" ++ (signed_decimal objective
+    ++ (codes "\",\"package\":[" ++ (joined (codes ",") pair_text pairs ++ codes "],\"status\":\"optimal\",\"version\":2}\n")))
+
+abbrev pub infeasible_line : List ℕ
+infeasible_line = codes "{\"status\":\"infeasible\",\"version\":2}\n"
+
+abbrev pub notbuilt_line : List ℕ
+notbuilt_line = codes "{\"error\":\"notbuilt\",\"status\":\"refused\"}\n"
