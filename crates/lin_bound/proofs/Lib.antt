@@ -1,0 +1,7 @@
+pub mod Products
+pub mod Sums
+mod Sizes
+mod Duality
+mod OnePoint
+mod Halves
+mod Cuts

@@ -1,0 +1,5 @@
+pub mod Sums
+pub mod Problem
+pub mod Box
+pub mod Bound
+pub mod Laws

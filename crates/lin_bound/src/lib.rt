@@ -1,0 +1,18 @@
+//! Bounded integer programs, the boxes that a search cuts them into, and dual bounds over a box.
+#![tactic(auto)]
+
+mod bounds;
+mod laws;
+mod mult;
+mod path;
+mod problem;
+mod region;
+
+pub use bounds::{bound, closes};
+pub use laws::{
+    closed_holds_none, ends_are_greatest, halves_cover, one_point_closes, weak_duality,
+};
+pub use mult::{Mult, plain_mult};
+pub use path::{Branch, Path};
+pub use problem::{Point, Problem};
+pub use region::{Region, box_of};
