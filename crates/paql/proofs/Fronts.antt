@@ -88,9 +88,11 @@ module _ {A : Type 0} (valid : A → Type 0) (separator : List ℕ) (spell : A �
       regrouped = ap (λ (l : List ℕ). joined separator spell items ++ l) (sym (append_assoc separator (spell x) left)) ∙ sym (append_assoc (joined separator spell items) (separator ++ spell x) left)
 
   pub finishes : (end text rest left : List ℕ) (items : List A) → IsListed valid separator spell text items rest → rest ≡ end ++ left
-    → AreItems valid items × (text ≡ (joined separator spell items ++ end) ++ left)
-  finishes end text rest left items listed e = (listed.items_are,
-    listed.whole ∙ ap (λ (l : List ℕ). joined separator spell items ++ l) e ∙ sym (append_assoc (joined separator spell items) end left))
+      → AreItems valid items × (text ≡ (joined separator spell items ++ end) ++ left)
+  finishes end text rest left items listed e = (
+    listed.items_are,
+    listed.whole ∙ ap (λ (l : List ℕ). joined separator spell items ++ l) e ∙ sym (append_assoc (joined separator spell items) end left),
+  )
 
   -- where no item stands at the front, no list does
   pub none_first : (text end : List ℕ) → ((x : A) (r : List ℕ) → valid x → text ≡ spell x ++ r → ⊥)

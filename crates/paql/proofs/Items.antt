@@ -20,8 +20,8 @@ space_ends = record { no_minus = λ e. omega (arith, e); no_digit = inl (omega a
 
 pub value_free : IsFree InRange value_text
 value_free a b r s p q e =
-  let tails : (signed_decimal a ++ 41 ∷ []) ++ r ≡ (signed_decimal b ++ 41 ∷ []) ++ s = cc in
-  number_free 41 bracket_ends a b r s p q tails
+    let tails : (signed_decimal a ++ 41 ∷ []) ++ r ≡ (signed_decimal b ++ 41 ∷ []) ++ s = cc in
+    number_free 41 bracket_ends a b r s p q tails
 
 measure_free : (a b : Measure) (r s : List ℕ) → measure_text a ++ r ≡ measure_text b ++ s → (a ≡ b) × (r ≡ s)
 measure_free Count Count r s e = (refl, append_cancel_left (codes "COUNT(P.*)") r s e)
@@ -41,16 +41,16 @@ limit_text conjunct = signed_decimal conjunct.limit ++ codes " "
 pub conjunct_free : IsFree HasLimit conjunct_text
 unfolding limit_text
 conjunct_free a b r s p q e =
-  let apart = λ (x : Conjunct) (u : List ℕ). append_assoc (measure_text x.measure) (side_text x.side ++ limit_text x) u in
-  let next = λ (x : Conjunct) (u : List ℕ). append_assoc (side_text x.side) (limit_text x) u in
-  let measures = measure_free a.measure b.measure ((side_text a.side ++ limit_text a) ++ r) ((side_text b.side ++ limit_text b) ++ s) (sym (apart a r) ∙ e ∙ apart b s) in
-  let sides = side_free a.side b.side (limit_text a ++ r) (limit_text b ++ s) (sym (next a r) ∙ measures.1 ∙ next b s) in
-  let limits = number_free 32 space_ends a.limit b.limit r s p q sides.1 in
-  let one : a.measure ≡ b.measure = measures.0 in
-  let two : a.side ≡ b.side = sides.0 in
-  let three : a.limit ≡ b.limit = limits.0 in
-  let all : record { measure = a.measure; side = a.side; limit = a.limit } ≡ record { measure = b.measure; side = b.side; limit = b.limit } = cc in
-  (all, limits.1)
+    let apart = λ (x : Conjunct) (u : List ℕ). append_assoc (measure_text x.measure) (side_text x.side ++ limit_text x) u in
+    let next = λ (x : Conjunct) (u : List ℕ). append_assoc (side_text x.side) (limit_text x) u in
+    let measures = measure_free a.measure b.measure ((side_text a.side ++ limit_text a) ++ r) ((side_text b.side ++ limit_text b) ++ s) (sym (apart a r) ∙ e ∙ apart b s) in
+    let sides = side_free a.side b.side (limit_text a ++ r) (limit_text b ++ s) (sym (next a r) ∙ measures.1 ∙ next b s) in
+    let limits = number_free 32 space_ends a.limit b.limit r s p q sides.1 in
+    let one : a.measure ≡ b.measure = measures.0 in
+    let two : a.side ≡ b.side = sides.0 in
+    let three : a.limit ≡ b.limit = limits.0 in
+    let all : record { measure = a.measure; side = a.side; limit = a.limit } ≡ record { measure = b.measure; side = b.side; limit = b.limit } = cc in
+    (all, limits.1)
 
 pub comma_apart : AreApart (codes ",") (codes ";")
 comma_apart r s e = let heads : ◌≡◌ {A = ℕ} 44 59 = cc in omega (arith, heads)

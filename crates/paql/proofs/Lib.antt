@@ -2,5 +2,9 @@ pub mod Turns
 pub mod Decimals
 pub mod Fronts
 pub mod Items
+pub mod Legal
+pub mod Pairs
+pub mod Points
 pub mod Powers
 pub mod Statements
+pub mod Translated

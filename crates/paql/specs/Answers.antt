@@ -19,13 +19,17 @@ pub record IsInfeasible (script : Script) (line : List ℕ) : Type 0 where
 abbrev pub AnswersQuery : Script → List ℕ → Type 0
 AnswersQuery script line = IsOptimal script line ⊎ IsInfeasible script line
 
--- a script is answered by three lines
+-- the lines of the table, of its rows and of the query
+pub record HasLines (script : Script) (out : List ℕ) : Type 0 where
+  pub line : List ℕ
+  pub answer : AnswersQuery script line
+  pub lines : out ≡ (created_line ++ inserted_line (length script.insert.values)) ++ line
+
+-- a script is answered by its three lines
 pub record AnswersScript (bytes out : List ℕ) : Type 0 where
   pub script : Script
   pub form : IsScript bytes script
-  pub line : List ℕ
-  pub answer : AnswersQuery script line
-  pub lines : out ≡ created_line ++ (inserted_line (length script.insert.values) ++ line)
+  pub answer : HasLines script out
 
 -- any other input is refused by one
 pub record Refuses (bytes out : List ℕ) : Type 0 where

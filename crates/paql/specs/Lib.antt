@@ -4,4 +4,5 @@ pub mod Numbers
 pub mod Replies
 pub mod Answers
 pub mod Streams
+pub mod Translation
 pub mod Status

@@ -12,9 +12,12 @@ inserted_line rows = codes "{\"rows\":" ++ (decimal rows ++ codes ",\"status\":\
 abbrev pub pair_text : ℕ × ℕ → List ℕ
 pair_text pair = codes "[" ++ (decimal pair.0 ++ (codes "," ++ (decimal pair.1 ++ codes "]")))
 
+abbrev pub pairs_text : List (ℕ × ℕ) → List ℕ
+pairs_text pairs = joined (codes ",") pair_text pairs
+
 abbrev pub optimal_line : ℤ → List (ℕ × ℕ) → List ℕ
 optimal_line objective pairs = codes "{\"objective\":\"" ++ (signed_decimal objective
-    ++ (codes "\",\"package\":[" ++ (joined (codes ",") pair_text pairs ++ codes "],\"status\":\"optimal\",\"version\":2}\n")))
+    ++ (codes "\",\"package\":[" ++ (pairs_text pairs ++ codes "],\"status\":\"optimal\",\"version\":2}\n")))
 
 abbrev pub infeasible_line : List ℕ
 infeasible_line = codes "{\"status\":\"infeasible\",\"version\":2}\n"

@@ -3,8 +3,10 @@
 
 mod answer;
 mod form;
+mod replies;
 mod streams;
 mod top;
+mod translate;
 
 use pq_base::{OpenGate, ReadSource, WriteSink};
 use std::env;

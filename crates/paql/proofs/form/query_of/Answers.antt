@@ -7,25 +7,26 @@ returns-in_default c = λ query rest asked e. c.in_default.ensures (codes " SELE
 
 pub returns-in_default-whole_before : goal.returns-in_default-whole_before
 returns-in_default-whole_before c = λ query rest asked e.
-  c.in_default-whole_before.ensures query.repeat _ asked.repeat (query_number c.args.text.now c.in-Some.text.now rest query c.in-Some.ensures.1 e)
+    c.in_default-whole_before.ensures query.repeat _ asked.repeat (query_number c.args.text.now c.in-Some.text.now rest query c.in-Some.ensures.1 e)
 
 pub returns-in_default-after : goal.returns-in_default-after
 returns-in_default-after c = λ query rest asked e.
-  let number = c.in-Some-whole_before in
-  c.in_default-after.ensures (codes "SUCH THAT ") _ refl
+    let number = c.in-Some-whole_before in
+    c.in_default-after.ensures (codes "SUCH THAT ") _ refl
     (query_such c.args.text.now c.in-Some.text.now number.text.now rest query number.repeat asked c.in-Some.ensures.1 number.ensures.0 number.ensures.1 e).1
 
 pub returns-in_default-2 : goal.returns-in_default-2
 returns-in_default-2 c = λ query rest asked e.
-  let number = c.in-Some-whole_before in
-  let none = rw c.in_default-2.is at c.in_ok-conjuncts.ensures in
-  none query.conjuncts rest asked.conjuncts
+    let number = c.in-Some-whole_before in
+    let none = rw c.in_default-2.is at c.in_ok-conjuncts.ensures in
+    none query.conjuncts rest asked.conjuncts
     (query_list c.args.text.now c.in-Some.text.now number.text.now c.in-Some-after.text.now rest query number.repeat asked c.in-Some.ensures.1 number.ensures.0 number.ensures.1 c.in-Some-after.ensures.1 e)
 
 pub returns : goal.returns
 returns c =
-  let number = c.in-Some-whole_before in
-  let list = rw c.in-Some-2.is at c.in_ok-conjuncts.ensures in
-  (record { repeat = number.ensures.0; conjuncts = list.0 },
-    query_read c.args.text.now c.in-Some.text.now number.text.now c.in-Some-after.text.now c.in-Some-2.text.now (record { repeat = number.repeat; conjuncts = c.in-Some-2.conjuncts })
-      c.in-Some.ensures.1 number.ensures.1 c.in-Some-after.ensures.1 list.1)
+    let number = c.in-Some-whole_before in
+    let list = rw c.in-Some-2.is at c.in_ok-conjuncts.ensures in (
+      record { repeat = number.ensures.0; conjuncts = list.0 },
+      query_read c.args.text.now c.in-Some.text.now number.text.now c.in-Some-after.text.now c.in-Some-2.text.now (record { repeat = number.repeat; conjuncts = c.in-Some-2.conjuncts })
+          c.in-Some.ensures.1 number.ensures.1 c.in-Some-after.ensures.1 list.1,
+    )

@@ -10,7 +10,7 @@ returns-in_default c = λ item rest small e. c.in_default.ensures (pos item) res
 
 pub returns-in_default-try_from : goal.returns-in_default-try_from
 returns-in_default-try_from c = λ item rest small e.
-  let same = number_free c.args.end c.requires c.in-Some.number (pos item) c.in-Some.text.now rest c.in-Some.ensures.0 small (sym c.in-Some.ensures.1 ∙ e) in
-  let fits : FitsSigned w64 (pos item) = fits_small (pos item) small in
-  let whole : FitsUnsignedBits 64 (pos item) = search rules in
-  c.in_default-try_from.ensures (rw (same.0, to_z-of_z w64 (pos item) fits) whole)
+    let same = number_free c.args.end c.requires c.in-Some.number (pos item) c.in-Some.text.now rest c.in-Some.ensures.0 small (sym c.in-Some.ensures.1 ∙ e) in
+    let fits : FitsSigned w64 (pos item) = fits_small (pos item) small in
+    let whole : FitsUnsignedBits 64 (pos item) = search rules in
+    c.in_default-try_from.ensures (rw (same.0, to_z-of_z w64 (pos item) fits) whole)

@@ -1,0 +1,88 @@
+//! From a script to a bounded integer program, and from its points back to packages.
+ghost use Rattle.std.specs.Prelude.{◌≡◌, ◌++◌, ◌∷◌, [], OnOk, ◌+◌, ◌<◌, ◌≤◌, ◌^◌, IfOk, map, length, unsigned_abs};
+ghost use Rattle.paql.specs.Form.{InRange};
+ghost use Rattle.std.specs.List.{AllByRecursion};
+ghost use Rattle.paql.specs.Translation.{signed, coefficient, row_of, side_of, program_of, package_from, IsAnswered, TranslationKeepsMeaning};
+
+use lin_bound::Problem;
+use paql_ast::{Conjunct, Measure, Script, Side};
+use sqlite_items::Items;
+use std::alloc::{AllocError, Global};
+
+/// The program of a script: a variable for each value, and a row for each condition.
+pub fn program_of(alloc: Global, script: &Script) -> Result<Problem, AllocError>
+    requires { IsAnswered script.now }
+    ensures { IfOk result (λ problem. problem ≡ program_of script.now) }
+{
+    let values = script.insert.values.as_slice();
+    let mut rows = Items::new(alloc);
+    let mut rhs = Items::new(alloc);
+    for conjunct in script.query.conjuncts.as_slice() {
+        rows.push(row_of(alloc, values, *conjunct)?)?;
+        rhs.push(signed(conjunct.side, conjunct.limit))?;
+    }
+    let cost = Items::from_slice(alloc, values)?;
+    let upper = vec![in alloc; script.query.repeat + 1; values.len()]?;
+    Ok(Problem::new(cost, rows, rhs, Items::from_vec(upper)))
+}
+
+// The row of a condition: what each value's row adds.
+fn row_of(alloc: Global, values: &[i64], conjunct: Conjunct) -> Result<Items<i64>, AllocError>
+    requires { AllByRecursion InRange values.now }
+    ensures { IfOk result (λ row. row ≡ row_of values.now conjunct) }
+{
+    let mut row = Items::new(alloc);
+    for value in values {
+        row.push(coefficient(conjunct, *value))?;
+    }
+    Ok(row)
+}
+
+// What one copy of a value's row adds.
+fn coefficient(conjunct: Conjunct, value: i64) -> i64
+    requires { InRange value }
+    ensures { result ≡ coefficient conjunct value }
+{
+    match conjunct.measure {
+        Measure::Count => signed(conjunct.side, 1),
+        Measure::Sum => signed(conjunct.side, value),
+    }
+}
+
+// At least is at most of the negated number.
+fn signed(side: Side, number: i64) -> i64
+    requires { InRange number }
+    ensures { result ≡ signed side number }
+{
+    match side {
+        Side::AtMost => number,
+        Side::AtLeast => -number,
+    }
+}
+
+/// The package of a point: a pair of an id and a count for each variable that isn't 0.
+pub fn package_of(alloc: Global, counts: &[u64]) -> Result<Items<(u64, u64)>, AllocError>
+    ensures { IfOk result (λ pairs. pairs ≡ package_from 1 counts.now) }
+{
+    let mut pairs = Items::new(alloc);
+    for (place, count) in counts.iter().enumerate() {
+        put(&mut pairs, place as u64 + 1, *count)?;
+    }
+    Ok(pairs)
+}
+
+// Adds the pair of an id, unless its count is 0.
+fn put(pairs: &mut Items<(u64, u64)>, id: u64, count: u64) -> Result<(), AllocError>
+    ensures { OnOk result (pairs.new ≡ pairs.old ++ package_from id (count ∷ [])) }
+{
+    if count == 0 {
+        return Ok(());
+    }
+    pairs.push((id, count))
+}
+
+/// The program means the query: points are feasible where their packages meet it, and cost what
+/// these are worth.
+pub fn translation_keeps_meaning()
+    ensures { TranslationKeepsMeaning }
+{}
