@@ -3,7 +3,12 @@
 #![tactic(auto)]
 
 mod comparison;
-mod plain;
+pub mod plain;
+mod search;
+mod sums;
 
 pub use comparison::Comparison;
-pub use plain::{PlainConjunct, PlainGoal, PlainQuery};
+pub use plain::{PlainBest, PlainConjunct, PlainGoal, PlainQuery};
+
+#[cfg(test)]
+mod tests;
