@@ -1,13 +1,12 @@
 -- What the plain search has found, and what is left for it to try.
-use Rattle.std.specs.Prelude.{◌≡◌, ℕ, suc, List, [], ◌∷◌, ◌++◌, ℤ, ◌≤ℤ◌, Option, None, Some}
+use Rattle.std.specs.Prelude.{◌≡◌, ℕ, ◌==◌, List, [], ◌∷◌, ◌++◌, ℤ, ◌≤ℤ◌, Option, None, Some, ◌⊎◌, if◌then◌else◌}
 use Rattle.package_query.specs.Query.{PackageQuery}
 use Rattle.package_query.specs.Meaning.{Meets, worth}
 use Rattle.package_query.specs.declared.plain.PlainBest.{PlainBest}
 
 -- so many copies of one row, as the part of a package
 abbrev pub copies_of : ℕ → ℕ → List (ℕ × ℕ)
-copies_of id zero = []
-copies_of id (suc count) = (id, suc count) ∷ []
+copies_of id count = if count == 0 then [] else (id, count) ∷ []
 
 -- each pair is of one of these rows, in their order
 abbrev pub TakesFrom : {R : Type 0} → List (ℕ × R) → List (ℕ × ℕ) → Type 0
@@ -36,3 +35,10 @@ pub record Improves {R : Type 0} (query : PackageQuery R) (rows : List (ℕ × R
 -- the packages that begin with the chosen pairs and go on over the rows that are left
 abbrev pub Extends : {R : Type 0} → List (ℕ × ℕ) → List (ℕ × R) → List (ℕ × ℕ) → Type 0
 Extends chosen left pairs = (tail : List (ℕ × ℕ)) × (pairs ≡ chosen ++ tail) × TakesFrom left tail
+
+-- of what was found and a candidate, the one that is worth more; the first where both are worth the same
+abbrev pub IsBetterOf : Option PlainBest → PlainBest → PlainBest → Type 0
+IsBetterOf None candidate better = better ≡ candidate
+IsBetterOf (Some best) candidate better =
+    ((better ≡ best) × (candidate.worth ≤ℤ best.worth))
+    ⊎ ((better ≡ candidate) × (best.worth ≤ℤ candidate.worth))

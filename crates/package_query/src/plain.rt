@@ -65,7 +65,13 @@ pub fn meets(query: &PlainQuery, rows: &[(u64, Items<i64>)], pairs: &[(u64, u64)
     requires ascends { AscendsFrom 0 rows.now }
     ensures { IsTrue result ↔ Meets (query_of query.now) rows.now pairs.now }
 {
-    is_package(pairs) && all_allowed(query, rows, pairs) && keeps_all(query, rows, pairs)
+    if !is_package(pairs) {
+        return false;
+    }
+    if !all_allowed(query, rows, pairs) {
+        return false;
+    }
+    keeps_all(query, rows, pairs)
 }
 
 /// What the package is worth: the goal's total, negated where it is to be least.

@@ -2,7 +2,7 @@
 ghost use Rattle.std.specs.Prelude.{◌≡◌, ◌++◌, ◌≤◌, IfOk, Some};
 ghost use Rattle.package_query.specs.Package.{AscendsFrom};
 ghost use Rattle.package_query.specs.Plain.{query_of, IsSmall};
-ghost use Rattle.package_query.specs.Search.{copies_of, IsFound, Improves, Extends};
+ghost use Rattle.package_query.specs.Search.{copies_of, IsFound, IsBetterOf, Improves, Extends};
 
 use crate::plain::{PlainBest, PlainQuery, meets, worth};
 use sqlite_items::Items;
@@ -17,16 +17,25 @@ fn with_copies(
     ensures { IfOk result (λ longer. longer.items ≡ chosen.now ++ copies_of id count) }
 {
     let mut longer = Vec::from_slice(alloc, chosen)?;
-    if count > 0 {
-        longer.push((id, count))?;
+    if count == 0 {
+        return Ok(longer);
     }
+    longer.push((id, count))?;
     Ok(longer)
 }
 
-fn better(best: Option<PlainBest>, candidate: PlainBest) -> PlainBest {
+fn better(best: Option<PlainBest>, candidate: PlainBest) -> PlainBest
+    ensures { IsBetterOf best candidate result }
+{
     match best {
-        Some(best) if best.worth >= candidate.worth => best,
-        _ => candidate,
+        Some(best) => {
+            if best.worth >= candidate.worth {
+                best
+            } else {
+                candidate
+            }
+        }
+        None => candidate,
     }
 }
 
