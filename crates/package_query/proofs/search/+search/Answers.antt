@@ -12,4 +12,4 @@ loop-count-preserved t c =
 pub returns : goal.returns
 returns t c =
     let all : c.loop-count.count ≡ c.args.query.now.repeat + 2 = omega (arith, c.loop-count-test.false, c.loop-count.auto.count-end) in
-    Improves-all c.args.query.now c.args.rows.now c.args.left.now c.args.chosen.now c.in-Some.first.now c.in-Some.others.now c.args.best c.loop-count.best (c.in-Some.ensures tt).cases.0 (rw all at c.loop-count.invariant)
+    Improves-all c.args.query.now c.args.rows.now c.args.left.now c.args.chosen.now c.in-Some.first.now c.in-Some.others.now c.args.best c.loop-count.best c.in-Some.ensures.cases.0 (rw all at c.loop-count.invariant)
