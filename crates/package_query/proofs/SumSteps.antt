@@ -31,8 +31,3 @@ kept_sum sum step small small_step =
 pub copies_give_more : (terms : List ℕ) (i count : ℕ) (row : List ℤ) → i < length terms → copies_give (map number_at (drop i terms)) count row ≡ (pos count *ℤ number_at (get_or terms i 0) row) +ℤ copies_give (map number_at (drop (i + 1) terms)) count row
 copies_give_more terms i count row within =
     at_drop_more (λ (ts : List ℕ). copies_give (map number_at ts) count row) terms i 0 within
-
--- the pairs from a place on give the one there and the later ones
-pub total_more : (terms : List ℕ) (rows : List (ℕ × List ℤ)) (pairs : List (ℕ × ℕ)) (i : ℕ) (pair : ℕ × ℕ) → i < length pairs → total (map number_at terms) rows (drop i pairs) ≡ pair_gives (map number_at terms) (get_or pairs i pair).1 (row_at (get_or pairs i pair).0 rows) +ℤ total (map number_at terms) rows (drop (i + 1) pairs)
-total_more terms rows pairs i pair within =
-    at_drop_more (total (map number_at terms) rows) pairs i pair within

@@ -18,42 +18,6 @@ abbrev pub IsTriedBelow : {R : Type 0} → ℕ → ℕ → List (ℕ × ℕ) →
 IsTriedBelow below id chosen left pairs =
     (count : ℕ) × (count < below) × Extends (chosen ++ copies_of id count) left pairs
 
--- where no package that was tried meets the query, what was found stays
-pub Improves-none : {R : Type 0} (query : PackageQuery R) (rows : List (ℕ × R)) (Tried : List (ℕ × ℕ) → Type 0) (best : Option PlainBest) → IsFound query rows best → ((pairs : List (ℕ × ℕ)) → Tried pairs → Meets query rows pairs → ⊥) → Improves query rows Tried best best
-Improves-none query rows Tried best found none = record {
-  found = found;
-  keeps = λ least reaches. reaches;
-  covers = λ pairs tried meets. absurd (none pairs tried meets);
-}
-
--- a package that doesn't meet the query is no find
-pub Improves-not_met : {R : Type 0} (query : PackageQuery R) (rows : List (ℕ × R)) (pairs : List (ℕ × ℕ)) (best : Option PlainBest) → IsFound query rows best → (Meets query rows pairs → ⊥) → Improves query rows (λ other. other ≡ pairs) best best
-Improves-not_met query rows pairs best found fails =
-    Improves-none query rows (λ other. other ≡ pairs) best found (λ other same meets. fails (subst (Meets query rows) same meets))
-
--- a candidate that meets the query is a find
-candidate_found : {R : Type 0} (query : PackageQuery R) (rows : List (ℕ × R)) (pairs : List (ℕ × ℕ)) (candidate : PlainBest) → Meets query rows pairs → candidate.pairs.items ≡ pairs → candidate.worth ≡ worth query rows pairs → IsFound query rows (Some candidate)
-candidate_found query rows pairs candidate meets items value =
-    (subst (Meets query rows) (sym items) meets, value ∙ ap (worth query rows) (sym items))
-
--- a find that is worth at least as much as a package, and as what was found before
-Improves-find : {R : Type 0} (query : PackageQuery R) (rows : List (ℕ × R)) (pairs : List (ℕ × ℕ)) (best : Option PlainBest) (find better : PlainBest) → better ≡ find → IsFound query rows (Some find) → worth query rows pairs ≤ℤ find.worth → ((least : ℤ) → Reaches best least → least ≤ℤ find.worth) → Improves query rows (λ other. other ≡ pairs) best (Some better)
-Improves-find query rows pairs best find better same found enough keeps =
-    subst (λ (b : PlainBest). Improves query rows (λ (other : List (ℕ × ℕ)). other ≡ pairs) best (Some b)) (sym same) (record {
-      found = found;
-      keeps = keeps;
-      covers = λ other of_pairs meets. subst (λ (z : ℤ). z ≤ℤ find.worth) (ap (worth query rows) (sym of_pairs)) enough;
-    })
-
--- the better of what was found and one more package that meets the query
-pub Improves-better : {R : Type 0} (query : PackageQuery R) (rows : List (ℕ × R)) (pairs : List (ℕ × ℕ)) (best : Option PlainBest) (candidate better : PlainBest) → IsFound query rows best → Meets query rows pairs → candidate.pairs.items ≡ pairs → candidate.worth ≡ worth query rows pairs → IsBetterOf best candidate better → Improves query rows (λ other. other ≡ pairs) best (Some better)
-Improves-better query rows pairs None candidate better found meets items value choice =
-    Improves-find query rows pairs None candidate better choice (candidate_found query rows pairs candidate meets items value) (omega (arith, ints, value)) (λ least reaches. absurd reaches)
-Improves-better query rows pairs (Some best) candidate better found meets items value choice =
-    elim choice [
-      inl stays ↦ Improves-find query rows pairs (Some best) best better stays.0 found (omega (arith, ints, value, stays.1)) (λ least reaches. reaches)
-    | inr goes ↦ Improves-find query rows pairs (Some best) candidate better goes.0 (candidate_found query rows pairs candidate meets items value) (omega (arith, ints, value)) (λ least reaches. omega (arith, ints, reaches, goes.1)) ]
-
 -- one more count of copies
 pub Improves-more : {R : Type 0} (query : PackageQuery R) (rows : List (ℕ × R)) (count id : ℕ) (chosen longer : List (ℕ × ℕ)) (left : List (ℕ × R)) (before between after : Option PlainBest) → longer ≡ chosen ++ copies_of id count → Improves query rows (IsTriedBelow count id chosen left) before between → Improves query rows (Extends longer left) between after → Improves query rows (IsTriedBelow (count + 1) id chosen left) before after
 Improves-more query rows count id chosen longer left before between after same first second = record {
@@ -111,17 +75,6 @@ Improves-all plain rows left chosen first others before after parts improves = r
   covers = λ pairs tried meets.
     let takes = rw parts at tried.2 in
     improves.covers pairs (tried_all plain rows chosen first others pairs tried.0 tried.1 takes meets) meets;
-}
-
--- with no row left, the chosen pairs are the only package
-pub Improves-chosen : {R : Type 0} (query : PackageQuery R) (rows left : List (ℕ × R)) (chosen : List (ℕ × ℕ)) (before after : Option PlainBest) → left ≡ [] → Improves query rows (λ other. other ≡ chosen) before after → Improves query rows (Extends chosen left) before after
-Improves-chosen query rows left chosen before after none improves = record {
-  found = improves.found;
-  keeps = improves.keeps;
-  covers = λ pairs tried meets.
-    let nothing : tried.0 ≡ [] = rw none at tried.2 in
-    let whole : pairs ≡ chosen = tried.1 ∙ (ap (λ (tail : List (ℕ × ℕ)). chosen ++ tail) nothing ∙ append-nil chosen) in
-    improves.covers pairs whole meets;
 }
 
 -- once all packages over the table were tried, what was found is best, and nothing found means that there is none

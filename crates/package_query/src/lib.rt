@@ -3,6 +3,7 @@
 #![tactic(auto)]
 
 mod comparison;
+mod limits;
 pub mod plain;
 mod search;
 mod sums;

@@ -8,6 +8,7 @@ ghost use Rattle.package_query.specs.Plain.{conjunct_of, goal_of, query_of, IsSm
 
 use crate::comparison::{Comparison, holds};
 use crate::search::search;
+pub use crate::limits::{ascends, is_small};
 use crate::sums::{row_at, total};
 use sqlite_items::Items;
 use std::alloc::{AllocError, Global};
