@@ -30,8 +30,9 @@ listed_above : {R : Type 0} (rows : List (ℕ × R)) (low : ℕ) (pair : ℕ × 
 listed_above [] low pair ascends listed = cc
 listed_above (entry ∷ entries) low pair ascends listed =
     elim (cases_eq entry.0 pair.0) [
-      inl same ↦ omega (arith, same, ascends.0)
-    | inr other ↦ omega (arith, ascends.0, listed_above entries (suc entry.0) pair ascends.1 (IsListed-rest entry entries pair other listed)) ]
+      | inl same ↦ omega (arith, same, ascends.0)
+      | inr other ↦ omega (arith, ascends.0, listed_above entries (suc entry.0) pair ascends.1 (IsListed-rest entry entries pair other listed))
+    ]
 
 -- pairs above the first row's id are all of the other rows
 listed_rest : {R : Type 0} (entry : ℕ × R) (entries : List (ℕ × R)) (low : ℕ) (pairs : List (ℕ × ℕ)) → entry.0 < low → RisesFrom low pairs → AllByRecursion (IsListed (entry ∷ entries)) pairs → AllByRecursion (IsListed entries) pairs
@@ -48,14 +49,15 @@ TakesFrom-listed [] low from (pair ∷ pairs) ascends rises listed = let found =
 TakesFrom-listed (entry ∷ entries) low from [] ascends rises listed = tt
 TakesFrom-listed (entry ∷ entries) low from (pair ∷ pairs) ascends rises listed =
     elim (cases_eq entry.0 pair.0) [
-      inl same ↦
-        let higher : entry.0 < suc pair.0 = omega (arith, same) in
-        inl (sym same, TakesFrom-listed entries (suc entry.0) (suc pair.0) pairs ascends.1 rises.2 (listed_rest entry entries (suc pair.0) pairs higher rises.2 listed.1))
-    | inr other ↦
-        let first = IsListed-rest entry entries pair other listed.0 in
-        let above = listed_above entries (suc entry.0) pair ascends.1 first in
-        let higher : entry.0 < suc pair.0 = omega (arith, above) in
-        inr (TakesFrom-listed entries (suc entry.0) from (pair ∷ pairs) ascends.1 rises (first, listed_rest entry entries (suc pair.0) pairs higher rises.2 listed.1)) ]
+      | inl same ↦
+          let higher : entry.0 < suc pair.0 = omega (arith, same) in
+          inl (sym same, TakesFrom-listed entries (suc entry.0) (suc pair.0) pairs ascends.1 rises.2 (listed_rest entry entries (suc pair.0) pairs higher rises.2 listed.1))
+      | inr other ↦
+          let first = IsListed-rest entry entries pair other listed.0 in
+          let above = listed_above entries (suc entry.0) pair ascends.1 first in
+          let higher : entry.0 < suc pair.0 = omega (arith, above) in
+          inr (TakesFrom-listed entries (suc entry.0) from (pair ∷ pairs) ascends.1 rises (first, listed_rest entry entries (suc pair.0) pairs higher rises.2 listed.1))
+    ]
 
 -- it has no more pairs than the table has rows
 length-TakesFrom : {R : Type 0} (rows : List (ℕ × R)) (pairs : List (ℕ × ℕ)) → TakesFrom rows pairs → length pairs ≤ length rows
@@ -63,8 +65,9 @@ length-TakesFrom [] pairs takes = let none : length pairs ≡ 0 = ap length take
 length-TakesFrom (entry ∷ entries) [] takes = omega arith
 length-TakesFrom (entry ∷ entries) (pair ∷ pairs) takes =
     elim takes [
-      inl h ↦ omega (arith, length-TakesFrom entries pairs h.1)
-    | inr h ↦ omega (arith, length-TakesFrom entries (pair ∷ pairs) h) ]
+      | inl h ↦ omega (arith, length-TakesFrom entries pairs h.1)
+      | inr h ↦ omega (arith, length-TakesFrom entries (pair ∷ pairs) h)
+    ]
 
 -- the table has each row that a query allows
 listed_from_allowed : {R : Type 0} (query : PackageQuery R) (rows : List (ℕ × R)) (pairs : List (ℕ × ℕ)) → AllByRecursion (IsAllowed query rows) pairs → AllByRecursion (IsListed rows) pairs

@@ -24,12 +24,13 @@ Improves-more query rows count id chosen longer left before between after same f
   found = second.found;
   keeps = λ least reaches. second.keeps least (first.keeps least reaches);
   covers = λ pairs tried meets.
-    elim (cases_lt tried.0 count) [
-      inl below ↦ second.keeps (worth query rows pairs) (first.covers pairs (tried.0, below, tried.2) meets)
-    | inr last ↦
-        let equal : tried.0 ≡ count = omega (arith, last, tried.1) in
-        let whole : longer ≡ chosen ++ copies_of id tried.0 = same ∙ ap (λ (n : ℕ). chosen ++ copies_of id n) (sym equal) in
-        second.covers pairs (tried.2.0, rw whole tried.2.1, tried.2.2) meets ];
+      elim (cases_lt tried.0 count) [
+        | inl below ↦ second.keeps (worth query rows pairs) (first.covers pairs (tried.0, below, tried.2) meets)
+        | inr last ↦
+            let equal : tried.0 ≡ count = omega (arith, last, tried.1) in
+            let whole : longer ≡ chosen ++ copies_of id tried.0 = same ∙ ap (λ (n : ℕ). chosen ++ copies_of id n) (sym equal) in
+            second.covers pairs (tried.2.0, rw whole tried.2.1, tried.2.2) meets
+      ];
 }
 
 -- what holds of each item holds of each later one
@@ -59,13 +60,14 @@ tried_all plain rows chosen first others pairs [] same takes meets =
     (0, omega arith, ([], same ∙ sym (append-nil (chosen ++ [])), TakesFrom-nil others))
 tried_all plain rows chosen first others pairs (pair ∷ tail) same takes meets =
     elim takes [
-      inl of_first ↦
-        let some = (AllByRecursion-later (λ (p : ℕ × ℕ). 1 ≤ p.1) chosen (pair ∷ tail) (subst (AllByRecursion (λ (p : ℕ × ℕ). 1 ≤ p.1)) same (counts_rise 0 pairs meets.rises))).0 in
-        let allowed = (AllByRecursion-later (IsAllowed (query_of plain) rows) chosen (pair ∷ tail) (subst (AllByRecursion (IsAllowed (query_of plain) rows)) same meets.each)).0 in
-        let copies : pair.1 ≤ plain.repeat + 1 = allowed.copies in
-        let whole : (chosen ++ (pair ∷ [])) ++ tail ≡ chosen ++ (pair ∷ tail) = append_assoc chosen (pair ∷ []) tail in
-        (pair.1, omega (arith, copies), (tail, rw (copies_of-pair first.0 pair of_first.0 some) (same ∙ sym whole), of_first.1))
-    | inr of_others ↦ (0, omega arith, (pair ∷ tail, rw (append-nil chosen) same, of_others)) ]
+      | inl of_first ↦
+          let some = (AllByRecursion-later (λ (p : ℕ × ℕ). 1 ≤ p.1) chosen (pair ∷ tail) (subst (AllByRecursion (λ (p : ℕ × ℕ). 1 ≤ p.1)) same (counts_rise 0 pairs meets.rises))).0 in
+          let allowed = (AllByRecursion-later (IsAllowed (query_of plain) rows) chosen (pair ∷ tail) (subst (AllByRecursion (IsAllowed (query_of plain) rows)) same meets.each)).0 in
+          let copies : pair.1 ≤ plain.repeat + 1 = allowed.copies in
+          let whole : (chosen ++ (pair ∷ [])) ++ tail ≡ chosen ++ (pair ∷ tail) = append_assoc chosen (pair ∷ []) tail in
+          (pair.1, omega (arith, copies), (tail, rw (copies_of-pair first.0 pair of_first.0 some) (same ∙ sym whole), of_first.1))
+      | inr of_others ↦ (0, omega arith, (pair ∷ tail, rw (append-nil chosen) same, of_others))
+    ]
 
 -- with every count of the first row, all packages over it and the others were tried
 pub Improves-all : (plain : PlainQuery) (rows left : List (ℕ × List ℤ)) (chosen : List (ℕ × ℕ)) (first : ℕ × List ℤ) (others : List (ℕ × List ℤ)) (before after : Option PlainBest) → left ≡ first ∷ others → Improves (query_of plain) rows (IsTriedBelow (plain.repeat + 2) first.0 chosen others) before after → Improves (query_of plain) rows (Extends chosen left) before after
@@ -73,17 +75,19 @@ Improves-all plain rows left chosen first others before after parts improves = r
   found = improves.found;
   keeps = improves.keeps;
   covers = λ pairs tried meets.
-    let takes = rw parts at tried.2 in
-    improves.covers pairs (tried_all plain rows chosen first others pairs tried.0 tried.1 takes meets) meets;
+      let takes = rw parts at tried.2 in
+      improves.covers pairs (tried_all plain rows chosen first others pairs tried.0 tried.1 takes meets) meets;
 }
 
 -- once all packages over the table were tried, what was found is best, and nothing found means that there is none
 pub best_of_all : (plain : PlainQuery) (rows : List (ℕ × List ℤ)) (found : Option PlainBest) → AscendsFrom 0 rows → Improves (query_of plain) rows (Extends [] rows) None found → MatchOption found (Empty (query_of plain) rows) (λ (best : PlainBest). Best (query_of plain) rows best.pairs.items × (best.worth ≡ worth (query_of plain) rows best.pairs.items))
 best_of_all plain rows None ascends improves =
     λ pairs meets. improves.covers pairs (pairs, refl, TakesFrom-allowed (query_of plain) rows pairs ascends meets.rises meets.each) meets
-best_of_all plain rows (Some best) ascends improves =
-    (record {
-      meets = improves.found.0;
-      none_better = λ other meets.
+best_of_all plain rows (Some best) ascends improves = (
+  record {
+    meets = improves.found.0;
+    none_better = λ other meets.
         rw (← improves.found.1) (improves.covers other (other, refl, TakesFrom-allowed (query_of plain) rows other ascends meets.rises meets.each) meets);
-    }, improves.found.1)
+  },
+  improves.found.1,
+)

@@ -7,8 +7,8 @@ ghost use Rattle.package_query.specs.Meaning.{IsAllowed, Keeps, Meets, Best, Emp
 ghost use Rattle.package_query.specs.Plain.{conjunct_of, goal_of, query_of, IsSmall, IsSmallPackage};
 
 use crate::comparison::{Comparison, holds};
-use crate::search::search;
 pub use crate::limits::{ascends, is_small};
+use crate::search::search;
 use crate::sums::{row_at, total};
 use sqlite_items::Items;
 use std::alloc::{AllocError, Global};

@@ -22,9 +22,10 @@ loop-place-preserved c =
     let small_step : unsigned_abs step ≤ 2 ^ 125 = omega (arith, c.times-sum.ensures.small) in
     let fits : SFits w64 c.number_at.result = search rules in
     let value : step ≡ pos count *ℤ number_at (get_or terms i 0) row =
-      c.times-sum.ensures.value ∙ ap (λ (z : ℤ). pos count *ℤ z) (to_z-of_z w64 c.number_at.result fits ∙ c.number_at.ensures) in
+    c.times-sum.ensures.value ∙ ap (λ (z : ℤ). pos count *ℤ z) (to_z-of_z w64 c.number_at.result fits ∙ c.number_at.ensures) in
     let next : copies_give (map number_at (drop i terms)) count row ≡ step +ℤ later =
-      copies_give_more terms i count row c.loop-place-test.true ∙ ap (λ (z : ℤ). z +ℤ later) (sym value) in
-    rw (kept_sum sum step small small_step)
-      ( sum_step sum step (copies_give (map number_at (drop i terms)) count row) later (copies_give (map number_at terms) count row) c.loop-place.invariant.0 next
-      , omega (arith, abs-add sum step, bound, c.times-sum.ensures.small))
+    copies_give_more terms i count row c.loop-place-test.true ∙ ap (λ (z : ℤ). z +ℤ later) (sym value) in
+    rw (kept_sum sum step small small_step) (
+      sum_step sum step (copies_give (map number_at (drop i terms)) count row) later (copies_give (map number_at terms) count row) c.loop-place.invariant.0 next,
+      omega (arith, abs-add sum step, bound, c.times-sum.ensures.small),
+    )

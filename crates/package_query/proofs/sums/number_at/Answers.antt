@@ -9,5 +9,5 @@ pub returns : goal.returns
 returns c =
     let fits : SFits w64 c.unwrap_or.result = search rules in
     let value : c.unwrap_or.result ≡ number_at c.args.place c.args.row.now =
-      cc (c.get.ensures.value, c.copied.ensures, c.unwrap_or.ensures, unwrap_or-slice_get c.args.row.now c.args.place (pos 0)) in
+    cc (c.get.ensures.value, c.copied.ensures, c.unwrap_or.ensures, unwrap_or-slice_get c.args.row.now c.args.place (pos 0)) in
     to_z-of_z w64 c.unwrap_or.result fits ∙ value
