@@ -1,9 +1,10 @@
 //! A plain, slow program for small queries. Its contracts are the definitions, so that what other
 //! programs answer can be compared with it.
-ghost use Rattle.std.specs.Prelude.{◌≡◌, ◌↔◌, ◌+◌, ◌^◌, ◌<◌, ◌≤◌, length, IsTrue, IfOk, MatchOption};
+ghost use Rattle.std.specs.Prelude.{◌≡◌, ◌↔◌, ◌+◌, ◌^◌, ◌<◌, ◌≤◌, length, map, IsTrue, IfOk, MatchOption};
 ghost use Rattle.std.specs.List.{AllByRecursion};
 ghost use Rattle.package_query.specs.Package.{IsPackage, AscendsFrom};
 ghost use Rattle.package_query.specs.Meaning.{IsAllowed, Keeps, Meets, Best, Empty, worth, goal_worth};
+ghost use Rattle.package_query.specs.declared.plain.PlainConjunct.{PlainConjunct};
 ghost use Rattle.package_query.specs.Plain.{conjunct_of, goal_of, query_of, IsSmall, IsSmallPackage};
 
 use crate::comparison::{Comparison, holds};
@@ -72,7 +73,7 @@ pub fn meets(query: &PlainQuery, rows: &[(u64, Items<i64>)], pairs: &[(u64, u64)
     if !all_allowed(query, rows, pairs) {
         return false;
     }
-    keeps_all(query, rows, pairs)
+    keeps_all(query.conjuncts.as_slice(), rows, pairs)
 }
 
 /// What the package is worth: the goal's total, negated where it is to be least.
@@ -136,12 +137,14 @@ fn keeps(conjunct: &PlainConjunct, rows: &[(u64, Items<i64>)], pairs: &[(u64, u6
     )
 }
 
-fn keeps_all(query: &PlainQuery, rows: &[(u64, Items<i64>)], pairs: &[(u64, u64)]) -> bool
-    requires small { IsSmall query.now rows.now }
+fn keeps_all(conjuncts: &[PlainConjunct], rows: &[(u64, Items<i64>)], pairs: &[(u64, u64)]) -> bool
+    requires terms { AllByRecursion (λ (conjunct : PlainConjunct). length conjunct.terms ≤ 64)
+        conjuncts.now }
     requires pairs { IsSmallPackage pairs.now }
-    ensures { IsTrue result ↔ AllByRecursion (Keeps rows.now pairs.now) (query_of query.now).conjuncts }
+    ensures { IsTrue result
+        ↔ AllByRecursion (Keeps rows.now pairs.now) (map conjunct_of conjuncts.now) }
 {
-    for conjunct in query.conjuncts.as_slice() {
+    for conjunct in conjuncts {
         if !keeps(conjunct, rows, pairs) {
             return false;
         }

@@ -7,6 +7,6 @@ use Rattle.package_query.proofs.plain.keeps_all.Given as goal
 
 abbrev pub invariant-loop-conjunct : goal.invariant-loop-conjunct
 invariant-loop-conjunct l =
-    AllByRecursion (λ (conjunct : PlainConjunct). length conjunct.terms ≤ 64) (drop l.conjunct-index l.conjunct-items)
-    × (AllByRecursion (Keeps l.rows l.pairs) (map conjunct_of (drop l.conjunct-index l.conjunct-items))
-    ↔ AllByRecursion (Keeps l.rows l.pairs) (map conjunct_of l.query.conjuncts))
+    AllByRecursion (λ (conjunct : PlainConjunct). length conjunct.terms ≤ 64) (drop l.conjunct-index l.conjuncts)
+    × (AllByRecursion (Keeps l.rows l.pairs) (map conjunct_of (drop l.conjunct-index l.conjuncts))
+    ↔ AllByRecursion (Keeps l.rows l.pairs) (map conjunct_of l.conjuncts))
