@@ -1,10 +1,9 @@
 -- Steps of sums.
-use Rattle.std.proofs.Common.{◌≡◌, ℕ, ◌+◌, ◌*◌, ◌<◌, ◌≤◌, ◌^◌, List, [], ◌∷◌, map, ℤ, pos, ◌+ℤ◌, ◌*ℤ◌, length, get_or, drop, refl, ap, subst, sym, ◌∙◌, to_z, of_z, arith}
+use Rattle.std.proofs.Common.{◌≡◌, ℕ, ◌+◌, ◌<◌, ◌≤◌, ◌^◌, List, map, ℤ, pos, ◌+ℤ◌, ◌*ℤ◌, length, get_or, drop, ap, ◌∙◌, to_z, of_z, arith}
 use Rattle.std.specs.Int.RustNames.{unsigned_abs}
 use Rattle.std.proofs.lemmas.Int.{ints, to_z-of_z, fits_signed_from_abs}
 use Rattle.std.proofs.lemmas.List.{at_drop_more}
-use Rattle.package_query.specs.Package.{row_at}
-use Rattle.package_query.specs.Meaning.{copies_give, pair_gives, total}
+use Rattle.package_query.specs.Meaning.{copies_give}
 use Rattle.package_query.specs.Plain.{number_at}
 use mir.Syntax.{w128}
 

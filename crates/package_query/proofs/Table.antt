@@ -1,5 +1,5 @@
 -- A table and the packages over it.
-use Rattle.std.proofs.Common.{◌≡◌, ◌≢◌, ℕ, suc, ◌+◌, ◌<◌, ◌≤◌, ◌^◌, List, [], ◌∷◌, ◌++◌, Option, None, Some, length, ℤ, ◌⊎◌, inl, inr, refl, sym, ap, ◌∙◌, arith}
+use Rattle.std.proofs.Common.{◌≡◌, ◌≢◌, ℕ, suc, ◌+◌, ◌<◌, ◌≤◌, ◌^◌, List, [], ◌∷◌, Some, length, ℤ, inl, inr, refl, sym, ap, ◌∙◌, arith}
 use Rattle.std.specs.List.{AllByRecursion}
 use Rattle.std.proofs.lemmas.Bool.{cases_eq, cond-false, ne_eqb}
 use Rattle.package_query.specs.Package.{IsPackage, RisesFrom, AscendsFrom, row_at}
@@ -59,7 +59,7 @@ TakesFrom-listed (entry ∷ entries) low from (pair ∷ pairs) ascends rises lis
           inr (TakesFrom-listed entries (suc entry.0) from (pair ∷ pairs) ascends.1 rises (first, listed_rest entry entries (suc pair.0) pairs higher rises.2 listed.1))
     ]
 
--- it has no more pairs than the table has rows
+-- such a package has no more pairs than the table has rows
 length-TakesFrom : {R : Type 0} (rows : List (ℕ × R)) (pairs : List (ℕ × ℕ)) → TakesFrom rows pairs → length pairs ≤ length rows
 length-TakesFrom [] pairs takes = let none : length pairs ≡ 0 = ap length takes in omega (arith, none)
 length-TakesFrom (entry ∷ entries) [] takes = omega arith
@@ -75,7 +75,7 @@ listed_from_allowed query rows [] allowed = tt
 listed_from_allowed query rows (pair ∷ pairs) allowed =
     (record { row = allowed.0.row; found = allowed.0.found }, listed_from_allowed query rows pairs allowed.1)
 
--- so does each package of allowed pairs
+-- a package of allowed pairs takes them in the table's order
 pub TakesFrom-allowed : {R : Type 0} (query : PackageQuery R) (rows : List (ℕ × R)) (pairs : List (ℕ × ℕ)) → AscendsFrom 0 rows → IsPackage pairs → AllByRecursion (IsAllowed query rows) pairs → TakesFrom rows pairs
 TakesFrom-allowed query rows pairs ascends rises allowed =
     TakesFrom-listed rows 0 0 pairs ascends rises (listed_from_allowed query rows pairs allowed)

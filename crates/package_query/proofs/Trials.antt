@@ -1,14 +1,13 @@
 -- What the search has tried, and what follows once it has tried all.
-use Rattle.std.proofs.Common.{◌≡◌, ◌≢◌, ℕ, suc, ◌+◌, ◌<◌, ◌≤◌, List, [], ◌∷◌, ◌++◌, Option, None, Some, MatchOption, ℤ, ◌≤ℤ◌, ◌⊎◌, inl, inr, refl, sym, ap, subst, ◌∙◌, arith, append_assoc}
+use Rattle.std.proofs.Common.{◌≡◌, ◌≢◌, ℕ, suc, ◌+◌, ◌<◌, ◌≤◌, List, [], ◌∷◌, ◌++◌, Option, None, Some, MatchOption, ℤ, inl, inr, refl, sym, ap, subst, ◌∙◌, arith, append_assoc}
 use Rattle.std.specs.List.{AllByRecursion}
 use Rattle.std.proofs.lemmas.Bool.{cases_lt, cond-false, ne_eqb}
-use Rattle.std.proofs.lemmas.Int.{ints}
 use Rattle.std.proofs.lemmas.List.{append-nil}
 use Rattle.package_query.specs.Package.{RisesFrom, AscendsFrom}
 use Rattle.package_query.specs.Query.{PackageQuery}
 use Rattle.package_query.specs.Meaning.{IsAllowed, Meets, Best, Empty, worth}
 use Rattle.package_query.specs.Plain.{query_of}
-use Rattle.package_query.specs.Search.{copies_of, TakesFrom, Extends, Improves, Reaches, IsFound, IsBetterOf}
+use Rattle.package_query.specs.Search.{copies_of, TakesFrom, Extends, Improves}
 use Rattle.package_query.specs.declared.plain.PlainBest.{PlainBest}
 use Rattle.package_query.specs.declared.plain.PlainQuery.{PlainQuery}
 use Rattle.package_query.proofs.Table.{TakesFrom-allowed}
@@ -49,7 +48,7 @@ copies_of-pair id pair same some =
     let ne : pair.1 ≢ 0 = omega (arith, some) in
     cond-false _ _ _ (ne_eqb pair.1 0 ne) ∙ ap (λ (n : ℕ). (n, pair.1) ∷ []) (sym same)
 
--- no pair can be taken from every table
+-- the empty package takes from any table
 TakesFrom-nil : {R : Type 0} (rows : List (ℕ × R)) → TakesFrom rows []
 TakesFrom-nil [] = refl
 TakesFrom-nil (entry ∷ entries) = tt

@@ -1,5 +1,5 @@
 -- Plain queries, as the plain program computes them: a row is the list of its numbers, and a term the place of one.
-use Rattle.std.specs.Prelude.{◌≡◌, ℕ, ◌^◌, ◌<◌, ◌≤◌, List, [], ◌∷◌, length, map, ℤ, pos, Bool, true, Option, None, Some, IfSome, slice_index_or}
+use Rattle.std.specs.Prelude.{ℕ, ◌^◌, ◌<◌, ◌≤◌, List, length, map, ℤ, pos, true, Option, None, Some, IfSome, slice_index_or}
 use Rattle.std.specs.List.{AllByRecursion}
 use Rattle.package_query.specs.Query.{Conjunct, Goal, PackageQuery}
 use Rattle.package_query.specs.declared.plain.PlainQuery.{PlainQuery}
@@ -26,10 +26,14 @@ query_of plain = record {
   goal = goal_of plain.goal;
 }
 
+-- at most 64 terms in each conjunct
+abbrev pub HaveFewTerms : List PlainConjunct → Type 0
+HaveFewTerms conjuncts = AllByRecursion (λ (conjunct : PlainConjunct). length conjunct.terms ≤ 64) conjuncts
+
 -- few enough copies, terms and rows that every sum over 64-bit numbers stays within 128 bits
 pub record IsSmall (plain : PlainQuery) (rows : List (ℕ × List ℤ)) : Type 0 where
   pub few_copies : plain.repeat < 2 ^ 20
-  pub few_terms : AllByRecursion (λ (conjunct : PlainConjunct). length conjunct.terms ≤ 64) plain.conjuncts
+  pub few_terms : HaveFewTerms plain.conjuncts
   pub few_goal_terms : IfSome plain.goal (λ (goal : PlainGoal). length goal.terms ≤ 64)
   pub few_rows : length rows < 2 ^ 32
 

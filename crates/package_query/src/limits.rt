@@ -1,17 +1,14 @@
 //! What the plain program asks of a query and its table, as tests.
 ghost use Rattle.std.specs.Prelude.{◌↔◌, ◌≤◌, length, IsTrue, IfSome};
-ghost use Rattle.std.specs.List.{AllByRecursion};
 ghost use Rattle.package_query.specs.Package.{AscendsFrom};
-ghost use Rattle.package_query.specs.Plain.{IsSmall};
-ghost use Rattle.package_query.specs.declared.plain.PlainConjunct.{PlainConjunct};
+ghost use Rattle.package_query.specs.Plain.{HaveFewTerms, IsSmall};
 ghost use Rattle.package_query.specs.declared.plain.PlainGoal.{PlainGoal};
 
 use crate::plain::{PlainConjunct, PlainGoal, PlainQuery};
 use sqlite_items::Items;
 
 fn have_few_terms(conjuncts: &[PlainConjunct]) -> bool
-    ensures { IsTrue result
-        ↔ AllByRecursion (λ (conjunct : PlainConjunct). length conjunct.terms ≤ 64) conjuncts.now }
+    ensures { IsTrue result ↔ HaveFewTerms conjuncts.now }
 {
     for conjunct in conjuncts {
         if conjunct.terms.len() > 64 {

@@ -4,8 +4,7 @@ ghost use Rattle.std.specs.Prelude.{◌≡◌, ◌↔◌, ◌+◌, ◌^◌, ◌<
 ghost use Rattle.std.specs.List.{AllByRecursion};
 ghost use Rattle.package_query.specs.Package.{IsPackage, AscendsFrom};
 ghost use Rattle.package_query.specs.Meaning.{IsAllowed, Keeps, Meets, Best, Empty, worth, goal_worth};
-ghost use Rattle.package_query.specs.declared.plain.PlainConjunct.{PlainConjunct};
-ghost use Rattle.package_query.specs.Plain.{conjunct_of, goal_of, query_of, IsSmall, IsSmallPackage};
+ghost use Rattle.package_query.specs.Plain.{conjunct_of, goal_of, query_of, HaveFewTerms, IsSmall, IsSmallPackage};
 
 use crate::comparison::{Comparison, holds};
 pub use crate::limits::{ascends, is_small};
@@ -76,7 +75,8 @@ pub fn meets(query: &PlainQuery, rows: &[(u64, Items<i64>)], pairs: &[(u64, u64)
     keeps_all(query.conjuncts.as_slice(), rows, pairs)
 }
 
-/// What the package is worth: the goal's total, negated where it is to be least.
+/// What a package of allowed pairs is worth, whether or not it keeps the conjuncts: the goal's
+/// total, negated where it is to be least, and 0 without a goal.
 pub fn worth(query: &PlainQuery, rows: &[(u64, Items<i64>)], pairs: &[(u64, u64)]) -> i128
     requires small { IsSmall query.now rows.now }
     requires ascends { AscendsFrom 0 rows.now }
@@ -138,8 +138,7 @@ fn keeps(conjunct: &PlainConjunct, rows: &[(u64, Items<i64>)], pairs: &[(u64, u6
 }
 
 fn keeps_all(conjuncts: &[PlainConjunct], rows: &[(u64, Items<i64>)], pairs: &[(u64, u64)]) -> bool
-    requires terms { AllByRecursion (λ (conjunct : PlainConjunct). length conjunct.terms ≤ 64)
-        conjuncts.now }
+    requires terms { HaveFewTerms conjuncts.now }
     requires pairs { IsSmallPackage pairs.now }
     ensures { IsTrue result
         ↔ AllByRecursion (Keeps rows.now pairs.now) (map conjunct_of conjuncts.now) }
