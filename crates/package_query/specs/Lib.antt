@@ -2,3 +2,4 @@ pub mod Package
 pub mod Query
 pub mod Meaning
 pub mod Plain
+pub mod Search

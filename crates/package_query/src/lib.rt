@@ -3,7 +3,13 @@
 #![tactic(auto)]
 
 mod comparison;
-mod plain;
+mod limits;
+pub mod plain;
+mod search;
+mod sums;
 
 pub use comparison::Comparison;
-pub use plain::{PlainConjunct, PlainGoal, PlainQuery};
+pub use plain::{PlainBest, PlainConjunct, PlainGoal, PlainQuery};
+
+#[cfg(test)]
+mod tests;
