@@ -1,1 +1,4 @@
+pub mod Decimal
 pub mod Outside
+pub mod Scaled
+pub mod Spelling
