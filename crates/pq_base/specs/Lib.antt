@@ -1,2 +1,5 @@
 pub mod Outside
 pub mod Memory
+pub mod Decimal
+pub mod Scaled
+pub mod Spelling

@@ -1,12 +1,17 @@
 //! What every other crate stands on: the outside as traits, and numbers as text.
 #![tactic(auto)]
 
+pub mod decimal;
+pub mod scaled;
+
 mod adapters;
 mod memory;
-pub mod outside;
+mod outside;
 mod sure;
 
 pub use adapters::{OpenGate, ReadSource, WriteSink};
+pub use decimal::NumFault;
 pub use memory::{MemSink, MemSource};
 pub use outside::{Gate, GatePoint, Pull, Push, Sink, Source};
+pub use scaled::Scaled;
 pub use sure::{SureSink, SureSource};
