@@ -1,0 +1,39 @@
+-- What stands first in a list of tokens, and what a refusal says in another language.
+use Rattle.std.proofs.Common.{◌≡◌, ℕ, Bool, true, false, List, [], ◌∷◌, ◌++◌, Option, Some, None, refl, sym, ap, ◌∙◌}
+use Rattle.formal_grammar.specs.declared.stop.Why.{Why}
+use Rattle.formal_grammar.specs.declared.stop.Why.TheVariants.{Syntax, Deep}
+use Rattle.formal_grammar.specs.Parse.{peek, sees}
+use Rattle.formal_grammar.specs.Exact.{Langs, none, Within, Never, Deeper, IsBad}
+
+-- Behind the same tokens the same token, or the end, stands first.
+pub peek-append : {T : Type 0} (front a b : List T) → peek a ≡ peek b → peek (front ++ a) ≡ peek (front ++ b)
+peek-append [] a b same = same
+peek-append (t ∷ front) a b same = refl
+
+seen : {T : Type 0} → (T → Bool) → Option T → Bool
+seen f (Some t) = f t
+seen f None = false
+
+sees-seen : {T : Type 0} (f : T → Bool) (s : List T) → sees f s ≡ seen f (peek s)
+unfolding seen
+sees-seen f [] = refl
+sees-seen f (t ∷ s) = refl
+
+-- A test of the first token sees no more than that token.
+pub sees-peek : {T : Type 0} (f : T → Bool) (a b : List T) → peek a ≡ peek b → sees f a ≡ sees f b
+sees-peek f a b same = sees-seen f a ∙ ap (seen f) same ∙ sym (sees-seen f b)
+
+-- No token is in the empty set.
+pub sees-none : {T : Type 0} (s : List T) → sees none s ≡ false
+sees-none [] = refl
+sees-none (t ∷ s) = refl
+
+-- What is no token of the larger set is none of the smaller.
+pub sees-within : {T : Type 0} {small large : T → Bool} → Within small large → (s : List T) → sees large s ≡ false → sees small s ≡ false
+sees-within within [] apart = refl
+sees-within within (t ∷ s) apart = within t apart
+
+-- A refusal in one language is a refusal in another, if what never agrees and what is deeper is so there too.
+pub bad_as : {T A B : Type 0} {L : Langs T A} {M : Langs T B} {e1 e2 : T → Bool} {n k : ℕ} {p q rest : List T} (why : Why) → ((m : ℕ) → Never L e1 m p rest → Never M e2 m q rest) → (Never L e1 n p rest → Never M e2 k q rest) → (Deeper L n p rest → Deeper M k q rest) → IsBad why L e1 n p rest → IsBad why M e2 k q rest
+bad_as Syntax never here deeper bad = λ m. never m (bad m)
+bad_as Deep never here deeper bad = (here bad.0, deeper bad.1)

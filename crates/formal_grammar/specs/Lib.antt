@@ -1,0 +1,4 @@
+pub mod Lang
+pub mod Parse
+pub mod Exact
+pub mod Fault

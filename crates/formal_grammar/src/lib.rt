@@ -1,0 +1,6 @@
+//! Grammars as languages, parsers as functions on lists, and what makes the one exact for the other.
+#![tactic(auto)]
+
+pub mod stop;
+
+pub use stop::{ReadError, Why};
