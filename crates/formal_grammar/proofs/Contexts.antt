@@ -3,7 +3,7 @@ use Rattle.std.proofs.Common.{◌≡◌, ℕ, Bool, true, false, List, [], ◌�
 use Rattle.formal_grammar.specs.declared.stop.Why.{Why}
 use Rattle.formal_grammar.specs.declared.stop.Why.TheVariants.{Syntax, Deep}
 use Rattle.formal_grammar.specs.Parse.{peek, sees}
-use Rattle.formal_grammar.specs.Exact.{Langs, none, Within, Never, Deeper, IsBad}
+use Rattle.formal_grammar.specs.Exact.{Langs, none, Within, StartsIn, Never, Deeper, IsBad}
 
 -- Behind the same tokens the same token, or the end, stands first.
 pub peek-append : {T : Type 0} (front a b : List T) → peek a ≡ peek b → peek (front ++ a) ≡ peek (front ++ b)
@@ -32,6 +32,26 @@ sees-none (t ∷ s) = refl
 pub sees-within : {T : Type 0} {small large : T → Bool} → Within small large → (s : List T) → sees large s ≡ false → sees small s ≡ false
 sees-within within [] apart = refl
 sees-within within (t ∷ s) apart = within t apart
+
+-- Tokens that begin with one of f begin so whatever stands behind them.
+pub starts-sees : {T : Type 0} {f : T → Bool} (w k : List T) → StartsIn f w → sees f (w ++ k) ≡ true
+starts-sees {f = f} w k x = ap (λ z. sees f (z ++ k)) x.cons ∙ x.passes
+
+-- The first token of a text is the first of what it stands in front of.
+pub peek_first : {T : Type 0} {t : T} {tail : List T} (w k x : List T) → w ≡ t ∷ tail → w ++ k ≡ x → peek x ≡ Some t
+peek_first w k x w-is e = sym (ap peek e) ∙ ap (λ z. peek (z ++ k)) w-is
+
+-- An option holds one value.
+pub some_is : {A : Type 0} {a b : A} → ◌≡◌ {A = Option A} (Some a) (Some b) → a ≡ b
+some_is e = cc
+
+-- What is some value is not none.
+pub not_none : {A : Type 0} {a : A} → ◌≡◌ {A = Option A} (Some a) None → ⊥
+not_none e = cc
+
+-- A test does not both pass and fail.
+pub both_ways : {b : Bool} → b ≡ true → b ≡ false → ⊥
+both_ways passes fails = cc
 
 -- A refusal in one language is a refusal in another, if what never agrees and what is deeper is so there too.
 pub bad_as : {T A B : Type 0} {L : Langs T A} {M : Langs T B} {e1 e2 : T → Bool} {n k : ℕ} {p q rest : List T} (why : Why) → ((m : ℕ) → Never L e1 m p rest → Never M e2 m q rest) → (Never L e1 n p rest → Never M e2 k q rest) → (Deeper L n p rest → Deeper M k q rest) → IsBad why L e1 n p rest → IsBad why M e2 k q rest

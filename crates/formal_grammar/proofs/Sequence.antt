@@ -13,7 +13,7 @@ module _ {T A B : Type 0} (p : Langs T A) (q : A → Langs T B) (e1 e2 : T → B
 
   -- both parts in any context give the first part in a context of its own
   first_context : (m : ℕ) (w : List T) (b : B) (k : List T) (t : both m w b) → sees e2 k ≡ false → sees e1 (t.back ++ k) ≡ false
-  first_context m w b k t apart = joins t.value m t.back b k t.second apart
+  first_context m w b k t apart = (joins t.value).clear m t.back b k t.second apart
 
   first_whole : (m : ℕ) (w : List T) (b : B) (k x : List T) (t : both m w b) → w ++ k ≡ x → t.front ++ (t.back ++ k) ≡ x
   first_whole m w b k x t e = sym (append_assoc t.front t.back k) ∙ ap (λ (z : List T). z ++ k) (sym t.whole) ∙ e
@@ -152,4 +152,4 @@ rule_then {p = p} {q = q} {P = P} {Q = Q} {e1 = e1} {e2 = e2} {n = n} joins x y 
 
 -- The same where nothing goes on with the first part.
 pub rule_seq : {T A B : Type 0} {p : Langs T A} {q : A → Langs T B} {P : Parser T A} {Q : A → Parser T B} {e2 : T → Bool} {n : ℕ} → IsRule p P none n → ((a : A) → IsRule (q a) (Q a) e2 n) → IsRule (λ m. p m >>= λ a. q a m) (λ s. and_then (P s) Q) e2 n
-rule_seq x y = rule_then (λ a m w b k t apart. sees-none (w ++ k)) x y
+rule_seq x y = rule_then (λ a. record { clear = λ m w b k t apart. sees-none (w ++ k) }) x y

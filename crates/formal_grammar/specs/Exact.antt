@@ -83,8 +83,8 @@ pub record IsRule {T A : Type 0} (L : Langs T A) (P : Parser T A) (ext : T → B
   pub exact : (s : List T) → Exact L ext n s (P s)
 
 -- Where a text of L stands, with what may follow it, no token of before stands first.
-abbrev pub Joins : {T A : Type 0} → (T → Bool) → Langs T A → (T → Bool) → Type 0
-Joins {T = T} {A = A} before L ext = (m : ℕ) (w : List T) (a : A) (k : List T) → L m w a → sees ext k ≡ false → sees before (w ++ k) ≡ false
+pub record Joins {T A : Type 0} (before : T → Bool) (L : Langs T A) (ext : T → Bool) : Type 0 where
+  pub clear : (m : ℕ) (w : List T) (a : A) (k : List T) → L m w a → sees ext k ≡ false → sees before (w ++ k) ≡ false
 
 -- These tokens begin with one of f.
 pub record StartsIn {T : Type 0} (f : T → Bool) (w : List T) : Type 0 where
@@ -94,12 +94,12 @@ pub record StartsIn {T : Type 0} (f : T → Bool) (w : List T) : Type 0 where
   pub passes : f head ≡ true
 
 -- Every text of L begins with a token of f, so none is empty.
-abbrev pub Starts : {T A : Type 0} → (T → Bool) → Langs T A → Type 0
-Starts {T = T} {A = A} f L = (m : ℕ) (w : List T) (a : A) → L m w a → StartsIn f w
+pub record Starts {T A : Type 0} (f : T → Bool) (L : Langs T A) : Type 0 where
+  pub first : (m : ℕ) (w : List T) (a : A) → L m w a → StartsIn f w
 
 -- Where a text of L stands, with what may follow it, the second token passes the test, or doesn't.
-abbrev pub Seconds : {T A : Type 0} → (T → Bool) → Bool → Langs T A → (T → Bool) → Type 0
-Seconds {T = T} {A = A} h passes L ext = (m : ℕ) (w : List T) (a : A) (k : List T) → L m w a → sees ext k ≡ false → sees h (rest_of (w ++ k)) ≡ passes
+pub record Seconds {T A : Type 0} (h : T → Bool) (passes : Bool) (L : Langs T A) (ext : T → Bool) : Type 0 where
+  pub second : (m : ℕ) (w : List T) (a : A) (k : List T) → L m w a → sees ext k ≡ false → sees h (rest_of (w ++ k)) ≡ passes
 
 -- The texts of L inside one more level of nesting: at depth 0 there are none.
 abbrev pub nested : {T A : Type 0} → Langs T A → Langs T A
