@@ -7,7 +7,8 @@ use Rattle.formal_grammar.proofs.Contexts.{sees-none, sees-within, starts-sees, 
 
 -- ---- with which tokens texts begin
 
-starts_first : {T : Type 0} {f : T → Bool} (w front back : List T) → w ≡ front ++ back → StartsIn f front → StartsIn f w
+-- What begins with a front begins as the front does.
+pub starts_first : {T : Type 0} {f : T → Bool} (w front back : List T) → w ≡ front ++ back → StartsIn f front → StartsIn f w
 starts_first w front back whole x = record { head = x.head; tail = x.tail ++ back; cons = whole ∙ ap (λ z. z ++ back) x.cons; passes = x.passes }
 
 -- A sequence begins as its first part does.

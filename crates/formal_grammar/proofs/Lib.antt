@@ -4,3 +4,7 @@ pub mod Widening
 pub mod Single
 pub mod Joins
 pub mod Choice
+pub mod Repeats
+pub mod Nesting
+pub mod Whole
+pub mod Loops

@@ -105,7 +105,3 @@ pub record Seconds {T A : Type 0} (h : T → Bool) (passes : Bool) (L : Langs T 
 abbrev pub nested : {T A : Type 0} → Langs T A → Langs T A
 nested L zero w a = ⊥
 nested L (suc m) w a = L m w a
-
--- What is left of the tokens behind a value is less than stood there.
-abbrev pub Shrinks : {T A : Type 0} → Parser T A → Type 0
-Shrinks {T = T} {A = A} P = (s : List T) (a : A) (u : List T) → P s ≡ Ok (a, u) → length u < length s

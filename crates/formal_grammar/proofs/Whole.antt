@@ -1,0 +1,141 @@
+-- What a rule says of the whole of the tokens.
+use Rattle.std.proofs.Common.{◌≡◌, ℕ, zero, suc, ◌+◌, ◌-◌, ◌<◌, ◌≤◌, max, Bool, false, List, [], ◌∷◌, ◌++◌, length, take, Option, Some, None, Result, Ok, Err, refl, sym, ap, subst, ◌∙◌, append-nil, append_assoc, arith, length-append, le_refl}
+use Rattle.std.proofs.lemmas.List.{take_at, append_cancel_left}
+use Rattle.formal_grammar.specs.declared.stop.Why.{Why}
+use Rattle.formal_grammar.specs.declared.stop.Why.TheVariants.{Syntax, Deep}
+use Rattle.formal_grammar.specs.Parse.{Outcome, Parser, peek, sees, ended, all_of}
+use Rattle.formal_grammar.specs.Exact.{Langs, none, Grows, Never, Begins, Took, Deeper, Stopped, IsBad, Exact, IsRule}
+use Rattle.formal_grammar.specs.Fault.{Agrees, IsSyntaxFault, IsDeepFault, IsOnly, IsFault, Judges}
+use Rattle.formal_grammar.proofs.Contexts.{some_is, not_none}
+
+-- Tokens that agree up to one past the text have the text in front, and then the same token, or the end.
+record Shares {T : Type 0} (text rest w : List T) : Type 0 where
+  other : List T
+  whole : w ≡ text ++ other
+  same : peek other ≡ peek rest
+
+heads : {T : Type 0} {x y : T} {xs ys : List T} → ◌≡◌ {A = List T} (x ∷ xs) (y ∷ ys) → (x ≡ y) × (xs ≡ ys)
+heads e = (cc, cc)
+
+nil_cons : {T : Type 0} {x : T} {xs : List T} → ◌≡◌ {A = List T} [] (x ∷ xs) → ⊥
+nil_cons e = cc
+
+shares : {T : Type 0} (text rest w : List T) → take (suc (length text)) w ≡ take (suc (length text)) (text ++ rest) → Shares text rest w
+shares [] [] [] e = record { other = []; whole = refl; same = refl }
+shares [] [] (y ∷ w) e = absurd (nil_cons (sym e))
+shares [] (t ∷ rest) [] e = absurd (nil_cons e)
+shares [] (t ∷ rest) (y ∷ w) e = record { other = y ∷ w; whole = refl; same = ap Some (heads e).0 }
+shares (x ∷ text) rest [] e = absurd (nil_cons e)
+shares (x ∷ text) rest (y ∷ w) e =
+    let h = heads e in
+    let r = shares text rest w h.1 in
+    record { other = r.other; whole = ap (λ z. z ∷ w) h.0 ∙ ap (λ z. x ∷ z) r.whole; same = r.same }
+
+module _ {T A : Type 0} (L : Langs T A) (ext : T → Bool) (n : ℕ) where
+  -- a beginning agrees with all that goes on from it
+  agrees_begun : (m : ℕ) (text rest s : List T) → s ≡ text ++ rest → Begins L m text → Agrees L m (length text) s
+  agrees_begun m text rest s whole b = record {
+    text = text ++ b.more;
+    value = b.value;
+    spells = b.text;
+    same = take_at text b.more (length text) refl ∙ sym (ap (take (length text)) whole ∙ take_at text rest (length text) refl);
+  }
+
+  -- and what never agrees agrees with no text
+  agrees_never : (m : ℕ) (text rest s : List T) → s ≡ text ++ rest → Never L ext m text rest → Agrees L m (suc (length text)) s → ⊥
+  agrees_never m text rest s whole never x =
+      let h = shares text rest x.text (x.same ∙ ap (take (suc (length text))) whole) in
+      never x.text x.value [] h.other x.spells refl h.same (append-nil x.text ∙ h.whole)
+
+  length_whole : (text rest s : List T) → s ≡ text ++ rest → length s ≡ length text + length rest
+  length_whole text rest s whole = ap length whole ∙ length-append text rest
+
+  judged_value : (s : List T) (a : A) → Took L ext n s a [] → IsOnly L n s a
+  judged_value s a x =
+      let all : s ≡ x.text = x.whole ∙ append-nil x.text in
+      record {
+        spells = subst (λ (z : List T). L n z a) (sym all) x.spells;
+        only = λ m b t. (x.only m s b [] [] t refl refl (append-nil s ∙ x.whole)).1;
+      }
+
+  begins_whole : (text : List T) (a : A) → L n text a → Begins L n text
+  begins_whole text a t = record { more = []; value = a; text = subst (λ (z : List T). L n z a) (sym (append-nil text)) t }
+
+  -- no text goes on behind one that was taken
+  goes_no_further : (s : List T) (a : A) (t : T) (rest : List T) (x : Took L ext n s a (t ∷ rest)) (m : ℕ) → Agrees L m (suc (length x.text)) s → ⊥
+  goes_no_further s a t rest x m y =
+      let h = shares x.text (t ∷ rest) y.text (y.same ∙ ap (take (suc (length x.text))) x.whole) in
+      let one = x.only m y.text y.value [] h.other y.spells refl h.same (append-nil y.text ∙ h.whole) in
+      let nothing : h.other ≡ [] = append_cancel_left x.text h.other [] (sym h.whole ∙ one.0 ∙ sym (append-nil x.text)) in
+      not_none (sym h.same ∙ ap peek nothing)
+
+  judged_more : (s : List T) (a : A) (t : T) (rest : List T) → Took L ext n s a (t ∷ rest) → Judges L n s (Err (Syntax, length (t ∷ rest)))
+  judged_more s a t rest x =
+      let len = length_whole x.text (t ∷ rest) s x.whole in
+      let at : length x.text ≡ length s - length (t ∷ rest) = omega (arith, len) in
+      let fault : IsSyntaxFault L n s (length x.text) = record {
+        within = omega (arith, len);
+        before = agrees_begun n x.text (t ∷ rest) s x.whole (begins_whole x.text a x.spells);
+        after = goes_no_further s a t rest x;
+      } in
+      (subst (λ (k : ℕ). IsSyntaxFault L n s k) at fault, omega (arith, len))
+
+  judged_stop : (s : List T) (e : Why × ℕ) → Stopped L ext n s e.0 e.1 → Judges L n s (Err e)
+  judged_stop s (Syntax, left) x =
+      let len = length_whole x.text x.rest s x.whole in
+      let at : length x.text ≡ length s - left = omega (arith, len, x.at) in
+      let fault : IsSyntaxFault L n s (length x.text) = record {
+        within = omega (arith, len);
+        before = agrees_begun n x.text x.rest s x.whole x.begins;
+        after = λ m y. agrees_never m x.text x.rest s x.whole (x.bad m) y;
+      } in
+      (subst (λ (k : ℕ). IsSyntaxFault L n s k) at fault, omega (arith, len, x.at))
+  judged_stop s (Deep, left) x =
+      let len = length_whole x.text x.rest s x.whole in
+      let at : length x.text ≡ length s - left = omega (arith, len, x.at) in
+      let d = x.bad.1 in
+      let some : length x.rest ≡ suc (length d.tail) = ap length d.cons in
+      let past : length (x.text ++ (d.head ∷ [])) ≡ suc (length x.text) = omega (arith, length-append x.text (d.head ∷ [])) in
+      let whole : s ≡ (x.text ++ (d.head ∷ [])) ++ d.tail = x.whole ∙ ap (λ (z : List T). x.text ++ z) d.cons ∙ sym (append_assoc x.text (d.head ∷ []) d.tail) in
+      let fault : IsDeepFault L n s (length x.text) = record {
+        within = omega (arith, len, some);
+        before = agrees_begun n x.text x.rest s x.whole x.begins;
+        depth = d.depth;
+        deeper = subst (λ (k : ℕ). Agrees L d.depth k s) past (agrees_begun d.depth (x.text ++ (d.head ∷ [])) d.tail s whole d.begins);
+        after = λ y. agrees_never n x.text x.rest s x.whole x.bad.0 y;
+      } in
+      (subst (λ (k : ℕ). IsDeepFault L n s k) at fault, omega (arith, len, x.at))
+
+  judged : (s : List T) (out : Outcome T A) → Exact L ext n s out → Judges L n s (ended out)
+  judged s (Ok (a, [])) x = judged_value s a x
+  judged s (Ok (a, t ∷ rest)) x = judged_more s a t rest x
+  judged s (Err e) x = judged_stop s e x
+
+  never_at : (why : Why) (p rest : List T) → IsBad why L ext n p rest → Never L ext n p rest
+  never_at Syntax p rest bad = bad n
+  never_at Deep p rest bad = bad.0
+
+  read : (s : List T) (a : A) → L n s a → (out : Outcome T A) → Exact L ext n s out → ended out ≡ Ok a
+  read s a t (Ok (b, [])) x = ap Ok (sym (x.only n s a [] [] t refl refl (append-nil s ∙ x.whole)).1)
+  read s a t (Ok (b, u ∷ rest)) x =
+      let one = x.only n s a [] (u ∷ rest) t refl refl (append-nil s ∙ x.whole) in
+      let nothing : u ∷ rest ≡ [] = append_cancel_left x.text (u ∷ rest) [] (sym x.whole ∙ one.0 ∙ sym (append-nil x.text)) in
+      absurd (nil_cons (sym nothing))
+  read s a t (Err e) x = absurd (never_at e.0 x.text x.rest x.bad s a [] x.rest t refl refl (append-nil s ∙ x.whole))
+
+-- What a rule says of the answer on all of the tokens: the one value, or the fault and its place.
+pub judges : {T A : Type 0} {L : Langs T A} {ext : T → Bool} {n : ℕ} {P : Parser T A} → IsRule L P ext n → (s : List T) → Judges L n s (all_of P s)
+judges {L = L} {ext = ext} {n = n} {P = P} x s = judged L ext n s (P s) (x.exact s)
+
+-- What is spelled is read.
+pub is_read : {T A : Type 0} {L : Langs T A} {ext : T → Bool} {n : ℕ} {P : Parser T A} → IsRule L P ext n → (s : List T) (a : A) → L n s a → all_of P s ≡ Ok a
+is_read {L = L} {ext = ext} {n = n} {P = P} x s a t = read L ext n s a t (P s) (x.exact s)
+
+value_is : {A E : Type 0} {a b : A} → ◌≡◌ {A = Result A E} (Ok a) (Ok b) → a ≡ b
+value_is e = cc
+
+-- Tokens spell one value at most, whatever the depth.
+pub one_value : {T A : Type 0} {L : Langs T A} {ext : T → Bool} {P : ℕ → Parser T A} → ((n : ℕ) → IsRule L (P n) ext n) → (m n : ℕ) (s : List T) (a b : A) → L m s a → L n s b → a ≡ b
+one_value rules m n s a b x y =
+    let rule = rules (m + n) in
+    value_is (sym (is_read rule s a (rule.grows m (m + n) s a (omega arith) x)) ∙ is_read rule s b (rule.grows n (m + n) s b (omega arith) y))
