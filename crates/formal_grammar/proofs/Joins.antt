@@ -73,6 +73,10 @@ joins_starts {before = before} apart starts = record {
     ap (λ z. sees before (z ++ k)) x.cons ∙ apart x.head x.passes;
 }
 
+-- This token, where it isn't in the set.
+pub joins_the : {T : Type 0} {before ext : T → Bool} {t : T} → before t ≡ false → Joins before (λ m. the t) ext
+joins_the {before = before} apart = record { clear = λ m w a k e _. ap (λ z. sees before (z ++ k)) e ∙ apart }
+
 -- At the first part of a sequence the second one follows.
 pub joins_then : {T A B : Type 0} {before between ext : T → Bool} {p : Langs T A} {q : A → Langs T B} → Joins before p between → ((a : A) → Joins between (q a) ext) → Joins before (λ m. p m >>= λ a. q a m) ext
 joins_then {before = before} x y = record {

@@ -4,7 +4,9 @@ pub mod Widening
 pub mod Single
 pub mod Joins
 pub mod Choice
+pub mod Lookahead
 pub mod Repeats
 pub mod Nesting
+pub mod Growth
 pub mod Whole
 pub mod Loops

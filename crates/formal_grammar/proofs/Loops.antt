@@ -59,17 +59,17 @@ fold_one add v a (Ok x) = refl
 fold_one add v a (Err e) = refl
 
 -- A turn that read a part keeps the whole.
-pub goes_on_by : {T A B : Type 0} (add : B → A → B) {f : T → Bool} {P : Parser T A} → Shrinks P → (v : B) (s : List T) (a : A) (u : List T) (total : Outcome T B) → sees f s ≡ true → P s ≡ Ok (a, u) → fold_front add v (repeat f P s) ≡ total → fold_front add (add v a) (repeat f P u) ≡ total
-goes_on_by add {f = f} {P = P} less v s a u total sees-is e so_far = sym (fold_one add v a (repeat f P u)) ∙ ap (fold_front add v) (sym (repeat_one f P less s a u sees-is e)) ∙ so_far
+pub goes_on_by : {T A B : Type 0} (add : B → A → B) (f : T → Bool) (P : Parser T A) → Shrinks P → (v : B) (s : List T) (a : A) (u : List T) (total : Outcome T B) → sees f s ≡ true → P s ≡ Ok (a, u) → fold_front add v (repeat f P s) ≡ total → fold_front add (add v a) (repeat f P u) ≡ total
+goes_on_by add f P less v s a u total sees-is e so_far = sym (fold_one add v a (repeat f P u)) ∙ ap (fold_front add v) (sym (repeat_one f P less s a u sees-is e)) ∙ so_far
 
 -- A part that fails fails the whole.
-pub ends_by : {T A B : Type 0} (add : B → A → B) {f : T → Bool} {P : Parser T A} (e : ReadError) (v : B) (s : List T) (total : Outcome T B) → sees f s ≡ true → Fails e (P s) → fold_front add v (repeat f P s) ≡ total → Fails e total
-ends_by add errors.Memory v s total sees-is fails so_far = tt
-ends_by add {f = f} {P = P} (errors.Stopped why left) v s total sees-is fails so_far = sym so_far ∙ ap (fold_front add v) (repeat_stop f P s (why, left) sees-is fails)
+pub ends_by : {T A B : Type 0} (add : B → A → B) (f : T → Bool) (P : Parser T A) (e : ReadError) (v : B) (s : List T) (total : Outcome T B) → sees f s ≡ true → Fails e (P s) → fold_front add v (repeat f P s) ≡ total → Fails e total
+ends_by add f P errors.Memory v s total sees-is fails so_far = tt
+ends_by add f P (errors.Stopped why left) v s total sees-is fails so_far = sym so_far ∙ ap (fold_front add v) (repeat_stop f P s (why, left) sees-is fails)
 
 -- Where no part begins, what was put together is the whole.
-pub is_done_by : {T A B : Type 0} (add : B → A → B) {f : T → Bool} {P : Parser T A} (v : B) (s : List T) (total : Outcome T B) → sees f s ≡ false → fold_front add v (repeat f P s) ≡ total → total ≡ Ok (v, s)
-is_done_by add {f = f} {P = P} v s total sees-is so_far = sym so_far ∙ ap (fold_front add v) (repeat_done f P s sees-is)
+pub is_done_by : {T A B : Type 0} (add : B → A → B) (f : T → Bool) (P : Parser T A) (v : B) (s : List T) (total : Outcome T B) → sees f s ≡ false → fold_front add v (repeat f P s) ≡ total → total ≡ Ok (v, s)
+is_done_by add f P v s total sees-is so_far = sym so_far ∙ ap (fold_front add v) (repeat_done f P s sees-is)
 
 -- A list without a separator behind its first part has that part alone.
 pub one_item : {T A : Type 0} (is : T → Bool) (P : Parser T A) (s : List T) (a : A) (u : List T) → P s ≡ Ok (a, u) → sees is u ≡ false → separated is P s ≡ Ok (a ∷ [], u)

@@ -6,7 +6,7 @@ use Rattle.formal_grammar.specs.declared.stop.Why.TheVariants.{Syntax, Deep}
 use Rattle.formal_grammar.specs.Parse.{Outcome, Parser, peek, sees, ended, all_of}
 use Rattle.formal_grammar.specs.Exact.{Langs, none, Grows, Never, Begins, Took, Deeper, Stopped, IsBad, Exact, IsRule}
 use Rattle.formal_grammar.specs.Fault.{Agrees, IsSyntaxFault, IsDeepFault, IsOnly, IsFault, Judges}
-use Rattle.formal_grammar.proofs.Contexts.{some_is, not_none}
+use Rattle.formal_grammar.proofs.Contexts.{never_at, not_none}
 
 -- Tokens that agree up to one past the text have the text in front, and then the same token, or the end.
 record Shares {T : Type 0} (text rest w : List T) : Type 0 where
@@ -111,17 +111,13 @@ module _ {T A : Type 0} (L : Langs T A) (ext : T → Bool) (n : ℕ) where
   judged s (Ok (a, t ∷ rest)) x = judged_more s a t rest x
   judged s (Err e) x = judged_stop s e x
 
-  never_at : (why : Why) (p rest : List T) → IsBad why L ext n p rest → Never L ext n p rest
-  never_at Syntax p rest bad = bad n
-  never_at Deep p rest bad = bad.0
-
   read : (s : List T) (a : A) → L n s a → (out : Outcome T A) → Exact L ext n s out → ended out ≡ Ok a
   read s a t (Ok (b, [])) x = ap Ok (sym (x.only n s a [] [] t refl refl (append-nil s ∙ x.whole)).1)
   read s a t (Ok (b, u ∷ rest)) x =
       let one = x.only n s a [] (u ∷ rest) t refl refl (append-nil s ∙ x.whole) in
       let nothing : u ∷ rest ≡ [] = append_cancel_left x.text (u ∷ rest) [] (sym x.whole ∙ one.0 ∙ sym (append-nil x.text)) in
       absurd (nil_cons (sym nothing))
-  read s a t (Err e) x = absurd (never_at e.0 x.text x.rest x.bad s a [] x.rest t refl refl (append-nil s ∙ x.whole))
+  read s a t (Err e) x = absurd (never_at L ext n x.text x.rest e.0 x.bad s a [] x.rest t refl refl (append-nil s ∙ x.whole))
 
 -- What a rule says of the answer on all of the tokens: the one value, or the fault and its place.
 pub judges : {T A : Type 0} {L : Langs T A} {ext : T → Bool} {n : ℕ} {P : Parser T A} → IsRule L P ext n → (s : List T) → Judges L n s (all_of P s)

@@ -2,3 +2,4 @@ pub mod Lang
 pub mod Parse
 pub mod Exact
 pub mod Fault
+pub mod Laws
