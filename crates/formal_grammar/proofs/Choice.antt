@@ -10,41 +10,41 @@ use Rattle.formal_grammar.proofs.Single.{rule_gives}
 use Rattle.formal_grammar.proofs.Joins.{starts_then, joins_gives}
 
 module _ {T A : Type 0} (p q : Langs T A) (ext : T → Bool) (n : ℕ) where
-  abbrev either : Langs T A
-  either m = p m or q m
+  abbrev choice : Langs T A
+  choice m = p m or q m
 
   -- At s the first part alone can stand.
-  pub exact_left : (s : List T) → ((m : ℕ) (w : List T) (a : A) (k : List T) → q m w a → sees ext k ≡ false → peek (w ++ k) ≡ peek s → ⊥) → (out : Outcome T A) → Exact p ext n s out → Exact either ext n s out
-  exact_left s not_right out exact = exact_part p either ext ext n (λ t h. h) (λ m w a t. inl t) s from out exact
+  pub exact_left : (s : List T) → ((m : ℕ) (w : List T) (a : A) (k : List T) → q m w a → sees ext k ≡ false → peek (w ++ k) ≡ peek s → ⊥) → (out : Outcome T A) → Exact p ext n s out → Exact choice ext n s out
+  exact_left s not_right out exact = exact_part p choice ext ext n (λ t h. h) (λ m w a t. inl t) s from out exact
     where
-      from : (m : ℕ) (w : List T) (a : A) (k : List T) → either m w a → sees ext k ≡ false → peek (w ++ k) ≡ peek s → p m w a
+      from : (m : ℕ) (w : List T) (a : A) (k : List T) → choice m w a → sees ext k ≡ false → peek (w ++ k) ≡ peek s → p m w a
       from m w a k (inl t) apart same = t
       from m w a k (inr t) apart same = absurd (not_right m w a k t apart same)
 
   -- At s the second part alone can stand.
-  pub exact_right : (s : List T) → ((m : ℕ) (w : List T) (a : A) (k : List T) → p m w a → sees ext k ≡ false → peek (w ++ k) ≡ peek s → ⊥) → (out : Outcome T A) → Exact q ext n s out → Exact either ext n s out
-  exact_right s not_left out exact = exact_part q either ext ext n (λ t h. h) (λ m w a t. inr t) s from out exact
+  pub exact_right : (s : List T) → ((m : ℕ) (w : List T) (a : A) (k : List T) → p m w a → sees ext k ≡ false → peek (w ++ k) ≡ peek s → ⊥) → (out : Outcome T A) → Exact q ext n s out → Exact choice ext n s out
+  exact_right s not_left out exact = exact_part q choice ext ext n (λ t h. h) (λ m w a t. inr t) s from out exact
     where
-      from : (m : ℕ) (w : List T) (a : A) (k : List T) → either m w a → sees ext k ≡ false → peek (w ++ k) ≡ peek s → q m w a
+      from : (m : ℕ) (w : List T) (a : A) (k : List T) → choice m w a → sees ext k ≡ false → peek (w ++ k) ≡ peek s → q m w a
       from m w a k (inl t) apart same = absurd (not_left m w a k t apart same)
       from m w a k (inr t) apart same = t
 
-  pub grows_either : Grows p → Grows q → Grows either
-  grows_either x y m k w a le (inl t) = inl (x m k w a le t)
-  grows_either x y m k w a le (inr t) = inr (y m k w a le t)
+  pub grows_choice : Grows p → Grows q → Grows choice
+  grows_choice x y m k w a le (inl t) = inl (x m k w a le t)
+  grows_choice x y m k w a le (inr t) = inr (y m k w a le t)
 
-  pub has_right : (m : ℕ) → Has q m → Has either m
+  pub has_right : (m : ℕ) → Has q m → Has choice m
   has_right m x = record { text = x.text; value = x.value; spells = inr x.spells }
 
   module _ (f : T → Bool) (starts : Starts f p) (joins : Joins f q ext) where
-    chosen : (s : List T) (b : Bool) (x y : Outcome T A) → sees f s ≡ b → (b ≡ true → Exact p ext n s x) → (b ≡ false → Exact q ext n s y) → Exact either ext n s (if b then x else y)
+    chosen : (s : List T) (b : Bool) (x y : Outcome T A) → sees f s ≡ b → (b ≡ true → Exact p ext n s x) → (b ≡ false → Exact q ext n s y) → Exact choice ext n s (if b then x else y)
     chosen s true x y sees-is left right = exact_left s (λ m w a k t apart same. both_ways (sees-peek f (w ++ k) s same ∙ sees-is) (joins.clear m w a k t apart)) x (left refl)
     chosen s false x y sees-is left right = exact_right s (λ m w a k t apart same. both_ways (starts-sees w k (starts.first m w a t)) (sees-peek f (w ++ k) s same ∙ sees-is)) y (right refl)
 
 -- The first part begins with a token of f, and where the second one stands there is none.
 pub rule_when : {T A : Type 0} {p q : Langs T A} {P Q : Parser T A} {ext : T → Bool} {n : ℕ} (f : T → Bool) → Starts f p → Joins f q ext → IsRule p P ext n → IsRule q Q ext n → IsRule (λ m. p m or q m) (when f P Q) ext n
 rule_when {p = p} {q = q} {P = P} {Q = Q} {ext = ext} {n = n} f starts joins x y = record {
-  grows = grows_either p q ext n x.grows y.grows;
+  grows = grows_choice p q ext n x.grows y.grows;
   has = λ m le. has_right p q ext n m (y.has m le);
   exact = λ s. chosen p q ext n f starts joins s (sees f s) (P s) (Q s) refl (λ _. x.exact s) (λ _. y.exact s);
 }

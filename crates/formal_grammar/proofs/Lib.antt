@@ -1,4 +1,5 @@
 pub mod Contexts
+pub mod Sets
 pub mod Sequence
 pub mod Widening
 pub mod Single
@@ -10,3 +11,4 @@ pub mod Nesting
 pub mod Growth
 pub mod Whole
 pub mod Loops
+mod SampleRules

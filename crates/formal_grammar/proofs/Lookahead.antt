@@ -5,7 +5,7 @@ use Rattle.formal_grammar.specs.Lang.{◌or◌}
 use Rattle.formal_grammar.specs.Parse.{Outcome, Parser, peek, sees, rest_of, when_two}
 use Rattle.formal_grammar.specs.Exact.{Langs, Never, Begins, Took, Deeper, Stopped, IsBad, Exact, IsRule, Starts, Seconds}
 use Rattle.formal_grammar.proofs.Contexts.{peek-append, sees-peek, starts-sees, both_ways, bad_as, never_at, not_none}
-use Rattle.formal_grammar.proofs.Choice.{exact_right, grows_either, has_right}
+use Rattle.formal_grammar.proofs.Choice.{exact_right, grows_choice, has_right}
 
 -- the first two tokens, where the text that stands in front isn't empty
 same_two : {T : Type 0} (text rest other s x : List T) → s ≡ text ++ rest → (text ≡ [] → ⊥) → x ≡ text ++ other → peek other ≡ peek rest → (peek x ≡ peek s) × (peek (rest_of x) ≡ peek (rest_of s))
@@ -56,25 +56,25 @@ module _ {T A : Type 0} (L M : Langs T A) (ext : T → Bool) (n : ℕ) (to : (m 
   exact_pair (Err e) exact = stopped_pair e exact
 
 module _ {T A : Type 0} (p q : Langs T A) (ext g h : T → Bool) (n : ℕ) (starts_p : Starts g p) (starts_q : Starts g q) (second_p : Seconds h true p ext) (second_q : Seconds h false q ext) (opens_p : (t : T) → g t ≡ true → Begins p n (t ∷ [])) (opens_q : (t : T) → g t ≡ true → Begins q n (t ∷ [])) where
-  abbrev either : Langs T A
-  either m = p m or q m
+  abbrev choice : Langs T A
+  choice m = p m or q m
 
   not_empty : (L : Langs T A) → Starts g L → (m : ℕ) (a : A) → L m [] a → ⊥
   not_empty L starts m a x = both_ways (starts-sees [] [] (starts.first m [] a x)) refl
 
-  second_chosen : (t : T) (s : List T) (b : Bool) (x y : Outcome T A) → g t ≡ true → sees h s ≡ b → Exact p ext n (t ∷ s) x → Exact q ext n (t ∷ s) y → Exact either ext n (t ∷ s) (if b then x else y)
-  second_chosen t s true x y opens sees-is left right = exact_pair p either ext n (λ m w a u. inl u) (t ∷ s) (not_empty p starts_p) t s refl (opens_p t opens) from x left
+  second_chosen : (t : T) (s : List T) (b : Bool) (x y : Outcome T A) → g t ≡ true → sees h s ≡ b → Exact p ext n (t ∷ s) x → Exact q ext n (t ∷ s) y → Exact choice ext n (t ∷ s) (if b then x else y)
+  second_chosen t s true x y opens sees-is left right = exact_pair p choice ext n (λ m w a u. inl u) (t ∷ s) (not_empty p starts_p) t s refl (opens_p t opens) from x left
     where
-      from : (m : ℕ) (w : List T) (a : A) (k : List T) → either m w a → sees ext k ≡ false → peek (rest_of (w ++ k)) ≡ peek s → p m w a
+      from : (m : ℕ) (w : List T) (a : A) (k : List T) → choice m w a → sees ext k ≡ false → peek (rest_of (w ++ k)) ≡ peek s → p m w a
       from m w a k (inl u) apart same = u
       from m w a k (inr u) apart same = absurd (both_ways (sees-peek h (rest_of (w ++ k)) s same ∙ sees-is) (second_q.second m w a k u apart))
-  second_chosen t s false x y opens sees-is left right = exact_pair q either ext n (λ m w a u. inr u) (t ∷ s) (not_empty q starts_q) t s refl (opens_q t opens) from y right
+  second_chosen t s false x y opens sees-is left right = exact_pair q choice ext n (λ m w a u. inr u) (t ∷ s) (not_empty q starts_q) t s refl (opens_q t opens) from y right
     where
-      from : (m : ℕ) (w : List T) (a : A) (k : List T) → either m w a → sees ext k ≡ false → peek (rest_of (w ++ k)) ≡ peek s → q m w a
+      from : (m : ℕ) (w : List T) (a : A) (k : List T) → choice m w a → sees ext k ≡ false → peek (rest_of (w ++ k)) ≡ peek s → q m w a
       from m w a k (inl u) apart same = absurd (both_ways (second_p.second m w a k u apart) (sees-peek h (rest_of (w ++ k)) s same ∙ sees-is))
       from m w a k (inr u) apart same = u
 
-  two_chosen : (s : List T) (b : Bool) (x y : Outcome T A) → sees g s ≡ b → Exact p ext n s x → Exact q ext n s y → Exact either ext n s (if b then (if sees h (rest_of s) then x else y) else y)
+  two_chosen : (s : List T) (b : Bool) (x y : Outcome T A) → sees g s ≡ b → Exact p ext n s x → Exact q ext n s y → Exact choice ext n s (if b then (if sees h (rest_of s) then x else y) else y)
   two_chosen [] true x y sees-is left right = absurd (both_ways sees-is refl)
   two_chosen (t ∷ s) true x y sees-is left right = second_chosen t s (sees h s) x y sees-is refl left right
   two_chosen s false x y sees-is left right = exact_right p q ext n s (λ m w a k u apart same. both_ways (starts-sees w k (starts_p.first m w a u)) (sees-peek g (w ++ k) s same ∙ sees-is)) y right
@@ -82,7 +82,7 @@ module _ {T A : Type 0} (p q : Langs T A) (ext g h : T → Bool) (n : ℕ) (star
 -- Both parts begin with any token of g; the second token of the one passes h, and that of the other doesn't.
 pub rule_two : {T A : Type 0} {p q : Langs T A} {P Q : Parser T A} {ext : T → Bool} {n : ℕ} (g h : T → Bool) → Starts g p → Starts g q → Seconds h true p ext → Seconds h false q ext → ((t : T) → g t ≡ true → Begins p n (t ∷ [])) → ((t : T) → g t ≡ true → Begins q n (t ∷ [])) → IsRule p P ext n → IsRule q Q ext n → IsRule (λ m. p m or q m) (when_two g h P Q) ext n
 rule_two {p = p} {q = q} {P = P} {Q = Q} {ext = ext} {n = n} g h starts_p starts_q second_p second_q opens_p opens_q x y = record {
-  grows = grows_either p q ext n x.grows y.grows;
+  grows = grows_choice p q ext n x.grows y.grows;
   has = λ m le. has_right p q ext n m (y.has m le);
   exact = λ s. two_chosen p q ext g h n starts_p starts_q second_p second_q opens_p opens_q s (sees g s) (P s) (Q s) refl (x.exact s) (y.exact s);
 }

@@ -1,5 +1,6 @@
 -- A `while` loop that reads parts, against the reading that repeats them.
 use Rattle.std.proofs.Common.{◌≡◌, ℕ, zero, suc, ◌<◌, ◌≤◌, Bool, true, false, List, [], ◌∷◌, ◌++◌, length, fold, flat_map, Result, Ok, Err, if◌then◌else◌, refl, sym, ap, subst, ◌∙◌, append-nil, append_assoc, arith, le_refl}
+use Rattle.std.specs.List.{push}
 use Rattle.formal_grammar.specs.declared.stop.Why.{Why}
 use Rattle.formal_grammar.specs.declared.stop.ReadError.{ReadError}
 use Rattle.formal_grammar.specs.declared.stop.ReadError.TheVariants as errors
@@ -83,16 +84,16 @@ fold_flat : {A B : Type 0} (g : A → List B) (v : List B) (xs : List A) → fol
 fold_flat g v [] = sym (append-nil v)
 fold_flat g v (a ∷ xs) = fold_flat g (v ++ g a) xs ∙ append_assoc v (g a) (flat_map g xs)
 
-fold_push : {A : Type 0} (v xs : List A) → fold (λ w a. w ++ a ∷ []) v xs ≡ v ++ xs
-fold_push v [] = sym (append-nil v)
-fold_push v (a ∷ xs) = fold_push (v ++ a ∷ []) xs ∙ append_assoc v (a ∷ []) xs
-
 -- A loop that appends what each part gives ends with all of it.
 pub flat_items : {T A B : Type 0} (g : A → List B) (v : List B) (o : Outcome T (List A)) → fold_front (λ w a. w ++ g a) v o ≡ and_then o (λ xs. pure (v ++ flat_map g xs))
 flat_items g v (Ok x) = ap (λ z. Ok (z, x.1)) (fold_flat g v x.0)
 flat_items g v (Err e) = refl
 
--- A loop that pushes each part ends with all of them.
-pub all_items : {T A : Type 0} (v : List A) (o : Outcome T (List A)) → fold_front (λ w a. w ++ a ∷ []) v o ≡ and_then o (λ xs. pure (v ++ xs))
-all_items v (Ok x) = ap (λ z. Ok (z, x.1)) (fold_push v x.0)
-all_items v (Err e) = refl
+fold_push : {A : Type 0} (v xs : List A) → fold push v xs ≡ v ++ xs
+fold_push v [] = sym (append-nil v)
+fold_push v (a ∷ xs) = fold_push (push v a) xs ∙ append_assoc v (a ∷ []) xs
+
+-- A loop that pushes each part, from the empty list on, ends with all of them.
+pub all_items : {T A : Type 0} (o : Outcome T (List A)) → fold_front push [] o ≡ o
+all_items (Ok x) = ap (λ z. Ok (z, x.1)) (fold_push [] x.0)
+all_items (Err e) = refl

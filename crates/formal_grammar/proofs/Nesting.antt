@@ -6,14 +6,15 @@ use Rattle.formal_grammar.specs.Lang.{◌or◌}
 use Rattle.formal_grammar.specs.Parse.{Outcome, Parser, peek, sees, stop, when}
 use Rattle.formal_grammar.specs.Exact.{Langs, Grows, Has, Never, Begins, Took, Deeper, Stopped, IsBad, Exact, IsRule, Starts, Joins, nested}
 use Rattle.formal_grammar.proofs.Contexts.{sees-peek, starts-sees, both_ways}
-use Rattle.formal_grammar.proofs.Choice.{exact_right, grows_either, has_right}
+use Rattle.formal_grammar.proofs.Choice.{exact_right, grows_choice, has_right}
+
+-- Nested texts grow as all do.
+pub grows_nested : {T A : Type 0} (L : Langs T A) → Grows L → Grows (nested L)
+grows_nested L grows zero k w a le t = absurd t
+grows_nested L grows (suc m) zero w a le t = absurd (omega (arith, le))
+grows_nested L grows (suc m) (suc k) w a le t = grows m k w a (omega (arith, le)) t
 
 module _ {T A : Type 0} (L : Langs T A) (ext : T → Bool) (n : ℕ) where
-  grows_nested : Grows L → Grows (nested L)
-  grows_nested grows zero k w a le t = absurd t
-  grows_nested grows (suc m) zero w a le t = absurd (omega (arith, le))
-  grows_nested grows (suc m) (suc k) w a le t = grows m k w a (omega (arith, le)) t
-
   has_nested : ((m : ℕ) → n ≤ m → Has L m) → (m : ℕ) → suc n ≤ m → Has (nested L) m
   has_nested has zero le = absurd (omega (arith, le))
   has_nested has (suc m) le = let h = has m (omega (arith, le)) in record { text = h.text; value = h.value; spells = h.spells }
@@ -52,23 +53,23 @@ module _ {T A : Type 0} (L : Langs T A) (ext : T → Bool) (n : ℕ) where
 -- One level deeper the same parser is exact for the nested texts.
 pub rule_nested : {T A : Type 0} {L : Langs T A} {P : Parser T A} {ext : T → Bool} {n : ℕ} → IsRule L P ext n → IsRule (nested L) P ext (suc n)
 rule_nested {L = L} {P = P} {ext = ext} {n = n} x = record {
-  grows = grows_nested L ext n x.grows;
+  grows = grows_nested L x.grows;
   has = has_nested L ext n x.has;
   exact = λ s. exact_nested L ext n s (P s) (x.exact s);
 }
 
 module _ {T A : Type 0} (p q : Langs T A) (ext f : T → Bool) (starts : Starts f p) (joins : Joins f q ext) (empty : (w : List T) (a : A) → p 0 w a → ⊥) (opens : (t : T) → f t ≡ true → Begins p 1 (t ∷ [])) where
-  abbrev either : Langs T A
-  either m = p m or q m
+  abbrev choice : Langs T A
+  choice m = p m or q m
 
-  begins_empty : Has q 0 → Begins either 0 []
+  begins_empty : Has q 0 → Begins choice 0 []
   begins_empty h = record { more = h.text; value = h.value; text = inr h.spells }
 
-  never_here : (s : List T) → sees f s ≡ true → Never either ext 0 [] s
+  never_here : (s : List T) → sees f s ≡ true → Never choice ext 0 [] s
   never_here s sees-is w a k other (inl t) apart same e = empty w a t
   never_here s sees-is w a k other (inr t) apart same e = both_ways (sees-peek f (w ++ k) s (ap peek e ∙ same) ∙ sees-is) (joins.clear 0 w a k t apart)
 
-  floor_stops : (s : List T) → Has q 0 → sees f s ≡ true → Exact either ext 0 s (stop Deep s)
+  floor_stops : (s : List T) → Has q 0 → sees f s ≡ true → Exact choice ext 0 s (stop Deep s)
   floor_stops [] h sees-is = absurd (both_ways sees-is refl)
   floor_stops (t ∷ s) h sees-is =
       let b = opens t sees-is in
@@ -81,14 +82,14 @@ module _ {T A : Type 0} (p q : Langs T A) (ext f : T → Bool) (starts : Starts 
         bad = (never_here (t ∷ s) sees-is, record { depth = 1; head = t; tail = s; cons = refl; more = omega arith; begins = record { more = b.more; value = b.value; text = inl b.text } });
       }
 
-  floor_chosen : (s : List T) (b : Bool) (Q : Parser T A) → sees f s ≡ b → Has q 0 → Exact q ext 0 s (Q s) → Exact either ext 0 s (if b then stop Deep s else Q s)
+  floor_chosen : (s : List T) (b : Bool) (Q : Parser T A) → sees f s ≡ b → Has q 0 → Exact q ext 0 s (Q s) → Exact choice ext 0 s (if b then stop Deep s else Q s)
   floor_chosen s true Q sees-is h exact = floor_stops s h sees-is
   floor_chosen s false Q sees-is h exact = exact_right p q ext 0 s (λ m w a k t apart same. both_ways (starts-sees w k (starts.first m w a t)) (sees-peek f (w ++ k) s same ∙ sees-is)) (Q s) exact
 
 -- Where no more may be nested: what opens is refused as too deep, and the other part is read.
 pub rule_floor : {T A : Type 0} (p : Langs T A) {q : Langs T A} {Q : Parser T A} {ext : T → Bool} (f : T → Bool) → Grows p → ((w : List T) (a : A) → p 0 w a → ⊥) → ((t : T) → f t ≡ true → Begins p 1 (t ∷ [])) → Starts f p → Joins f q ext → IsRule q Q ext 0 → IsRule (λ m. p m or q m) (when f (stop Deep) Q) ext 0
 rule_floor p {q = q} {Q = Q} {ext = ext} f grows empty opens starts joins y = record {
-  grows = grows_either p q ext 0 grows y.grows;
+  grows = grows_choice p q ext 0 grows y.grows;
   has = λ m le. has_right p q ext 0 m (y.has m le);
   exact = λ s. floor_chosen p q ext f starts joins empty opens s (sees f s) Q refl (y.has 0 le) (y.exact s);
 }

@@ -135,3 +135,22 @@ pub one_value : {T A : Type 0} {L : Langs T A} {ext : T → Bool} {P : ℕ → P
 one_value rules m n s a b x y =
     let rule = rules (m + n) in
     value_is (sym (is_read rule s a (rule.grows m (m + n) s a (omega arith) x)) ∙ is_read rule s b (rule.grows n (m + n) s b (omega arith) y))
+
+-- The value that was found is the only one.
+pub found_by : {T A : Type 0} {L : Langs T A} {ext : T → Bool} {n : ℕ} {P : Parser T A} → IsRule L P ext n → (s : List T) (a : A) → all_of P s ≡ Ok a → IsOnly L n s a
+found_by {L = L} {n = n} rule s a e = subst (λ r. Judges L n s r) e (judges rule s)
+
+-- The refusal is a fault of its kind at its place.
+pub fault_by : {T A : Type 0} {L : Langs T A} {ext : T → Bool} {n : ℕ} {P : Parser T A} → IsRule L P ext n → (s : List T) (why : Why) (left : ℕ) → all_of P s ≡ Err (why, left) → IsFault why L n s (length s - left) × (left ≤ length s)
+fault_by {L = L} {n = n} rule s why left e = subst (λ r. Judges L n s r) e (judges rule s)
+
+-- What is spelled is what was found.
+pub complete_by : {T A : Type 0} {L : Langs T A} {ext : T → Bool} {n : ℕ} {P : Parser T A} → IsRule L P ext n → (s : List T) (a b : A) → all_of P s ≡ Ok a → L n s b → a ≡ b
+complete_by rule s a b e t = value_is (sym e ∙ is_read rule s b t)
+
+ok_is_not_err : {A E : Type 0} {a : A} {e : E} → ◌≡◌ {A = Result A E} (Ok a) (Err e) → ⊥
+ok_is_not_err e = cc
+
+-- What is spelled is not refused.
+pub not_refused_by : {T A : Type 0} {L : Langs T A} {ext : T → Bool} {n : ℕ} {P : Parser T A} → IsRule L P ext n → (s : List T) (why : Why) (left : ℕ) (b : A) → all_of P s ≡ Err (why, left) → L n s b → ⊥
+not_refused_by rule s why left b e t = ok_is_not_err (sym (is_read rule s b t) ∙ e)

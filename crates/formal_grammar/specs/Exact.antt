@@ -1,7 +1,7 @@
 -- A parser is exact for a language if it takes the one text that stands in front, and else stops at the first
 -- token with which no text agrees. Contexts are ruled by `ext`, the tokens that would go on with a text: what
 -- stands behind a text never begins with one of them.
-use Rattle.std.specs.Prelude.{◌≡◌, ℕ, zero, suc, ◌<◌, ◌≤◌, Bool, true, false, List, [], ◌∷◌, ◌++◌, length, Ok, Err}
+use Rattle.std.specs.Prelude.{◌≡◌, ℕ, zero, suc, ◌<◌, ◌≤◌, Bool, true, false, ◌||◌, List, [], ◌∷◌, ◌++◌, length, Ok, Err}
 use Rattle.formal_grammar.specs.declared.stop.Why.{Why}
 use Rattle.formal_grammar.specs.declared.stop.Why.TheVariants.{Syntax, Deep}
 use Rattle.formal_grammar.specs.Lang.{Lang}
@@ -14,6 +14,9 @@ Langs T A = ℕ → Lang T A
 -- Sets of tokens: the empty one, two together, one inside another, and two apart.
 abbrev pub none : {T : Type 0} → T → Bool
 none t = false
+
+abbrev pub either : {T : Type 0} → (T → Bool) → (T → Bool) → T → Bool
+either f g t = f t || g t
 
 abbrev pub Within : {T : Type 0} → (T → Bool) → (T → Bool) → Type 0
 Within {T = T} small large = (t : T) → large t ≡ false → small t ≡ false

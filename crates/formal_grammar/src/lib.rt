@@ -2,6 +2,7 @@
 #![tactic(auto)]
 
 pub mod laws;
+pub mod sample;
 pub mod stop;
 
 pub use stop::{ReadError, Why};
