@@ -1,7 +1,7 @@
 -- One part or the other: the first token decides, or the first two.
-use Rattle.std.proofs.Common.{◌≡◌, ℕ, Bool, true, false, List, [], ◌∷◌, ◌++◌, Option, Some, None, Result, Ok, Err, if◌then◌else◌, inl, inr, refl, sym, ap, ◌∙◌}
-use Rattle.formal_grammar.specs.Lang.{◌>>=◌, ◌or◌, gives, optional}
-use Rattle.formal_grammar.specs.Parse.{Outcome, Parser, pure, peek, sees, when, maybe}
+use Rattle.std.proofs.Common.{◌≡◌, ℕ, Bool, true, false, List, ◌++◌, Some, None, if◌then◌else◌, inl, inr, refl, ◌∙◌}
+use Rattle.formal_grammar.specs.Lang.{◌or◌, gives, optional}
+use Rattle.formal_grammar.specs.Parse.{Outcome, Parser, peek, sees, when, maybe}
 use Rattle.formal_grammar.specs.Exact.{Langs, Within, Grows, Has, Exact, IsRule, Starts, Joins}
 use Rattle.formal_grammar.proofs.Contexts.{sees-peek, starts-sees, both_ways}
 use Rattle.formal_grammar.proofs.Widening.{exact_part}
@@ -53,5 +53,5 @@ rule_when {p = p} {q = q} {P = P} {Q = Q} {ext = ext} {n = n} f starts joins x y
 pub rule_optional : {T A : Type 0} {p : Langs T A} {P : Parser T A} {e1 : T → Bool} {n : ℕ} (f ext : T → Bool) → Starts f p → Within f ext → Within e1 ext → IsRule p P e1 n → IsRule (λ m. optional (p m)) (maybe f P) ext n
 rule_optional {p = p} {e1 = e1} {n = n} f ext starts f-within e1-within x =
     rule_when f (starts_then starts) (joins_gives f None ext f-within)
-      (rule_then {q = λ a m. gives (Some a)} (λ a. joins_gives e1 (Some a) ext e1-within) x (λ a. rule_gives (Some a) ext n))
-      (rule_gives None ext n)
+    (rule_then {q = λ a m. gives (Some a)} (λ a. joins_gives e1 (Some a) ext e1-within) x (λ a. rule_gives (Some a) ext n))
+    (rule_gives None ext n)

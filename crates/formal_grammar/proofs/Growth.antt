@@ -1,6 +1,6 @@
 -- Where each part has more texts, the whole has. Of use where a language calls itself, and its growth is a recursion.
-use Rattle.std.proofs.Common.{◌≡◌, ℕ, List, [], ◌∷◌, Option, inl, inr, refl}
-use Rattle.formal_grammar.specs.Lang.{Lang, Then, ◌>>=◌, ◌>>◌, ◌or◌, gives, the, optional, many, listed}
+use Rattle.std.proofs.Common.{ℕ, List, [], ◌∷◌, inl, inr, refl}
+use Rattle.formal_grammar.specs.Lang.{Lang, ◌>>=◌, ◌>>◌, ◌or◌, the, optional, many, listed}
 use Rattle.formal_grammar.specs.Exact.{Langs, Has, Begins}
 
 -- Each text of the one language is one of the other.

@@ -1,9 +1,9 @@
 -- What stands first where a text stands: the conditions at each join of two parts.
-use Rattle.std.proofs.Common.{◌≡◌, ℕ, zero, suc, Bool, true, false, List, [], ◌∷◌, ◌++◌, Option, Some, None, ◌⊎◌, inl, inr, refl, sym, ap, ◌∙◌, append_assoc}
+use Rattle.std.proofs.Common.{◌≡◌, ℕ, zero, suc, Bool, true, false, List, [], ◌∷◌, ◌++◌, Option, Some, None, ◌⊎◌, inl, inr, refl, ap, ◌∙◌, append_assoc}
 use Rattle.formal_grammar.specs.Lang.{◌>>=◌, ◌or◌, gives, shown, the, optional, many}
 use Rattle.formal_grammar.specs.Parse.{sees}
 use Rattle.formal_grammar.specs.Exact.{Langs, none, Within, Apart, StartsIn, Starts, Joins, nested}
-use Rattle.formal_grammar.proofs.Contexts.{sees-none, sees-within, starts-sees, both_ways}
+use Rattle.formal_grammar.proofs.Contexts.{sees-none, sees-within, both_ways}
 
 -- ---- with which tokens texts begin
 
@@ -39,8 +39,8 @@ in_larger small false within passes = absurd (both_ways passes (within refl))
 pub starts_wider : {T A : Type 0} {f g : T → Bool} {L : Langs T A} → Within f g → Starts f L → Starts g L
 starts_wider {f = f} {g = g} within starts = record {
   first = λ m w a t.
-    let x = starts.first m w a t in
-    record { head = x.head; tail = x.tail; cons = x.cons; passes = in_larger (f x.head) (g x.head) (within x.head) x.passes };
+      let x = starts.first m w a t in
+      record { head = x.head; tail = x.tail; cons = x.cons; passes = in_larger (f x.head) (g x.head) (within x.head) x.passes };
 }
 
 -- Texts that are among others begin as those do.
@@ -69,8 +69,8 @@ joins_gives before a ext within = record { clear = λ m w b k t apart. ap (λ z.
 pub joins_starts : {T A : Type 0} {f before : T → Bool} {L : Langs T A} {ext : T → Bool} → Apart f before → Starts f L → Joins before L ext
 joins_starts {before = before} apart starts = record {
   clear = λ m w a k t _.
-    let x = starts.first m w a t in
-    ap (λ z. sees before (z ++ k)) x.cons ∙ apart x.head x.passes;
+      let x = starts.first m w a t in
+      ap (λ z. sees before (z ++ k)) x.cons ∙ apart x.head x.passes;
 }
 
 -- This token, where it isn't in the set.
@@ -81,7 +81,7 @@ joins_the {before = before} apart = record { clear = λ m w a k e _. ap (λ z. s
 pub joins_then : {T A B : Type 0} {before between ext : T → Bool} {p : Langs T A} {q : A → Langs T B} → Joins before p between → ((a : A) → Joins between (q a) ext) → Joins before (λ m. p m >>= λ a. q a m) ext
 joins_then {before = before} x y = record {
   clear = λ m w b k t apart.
-    ap (λ z. sees before (z ++ k)) t.whole ∙ ap (sees before) (append_assoc t.front t.back k) ∙ x.clear m t.front t.value (t.back ++ k) t.first ((y t.value).clear m t.back b k t.second apart);
+      ap (λ z. sees before (z ++ k)) t.whole ∙ ap (sees before) (append_assoc t.front t.back k) ∙ x.clear m t.front t.value (t.back ++ k) t.first ((y t.value).clear m t.back b k t.second apart);
 }
 
 -- Each part of a choice.

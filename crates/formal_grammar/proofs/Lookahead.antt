@@ -3,8 +3,8 @@ use Rattle.std.proofs.Common.{◌≡◌, ℕ, Bool, true, false, List, [], ◌�
 use Rattle.formal_grammar.specs.declared.stop.Why.{Why}
 use Rattle.formal_grammar.specs.Lang.{◌or◌}
 use Rattle.formal_grammar.specs.Parse.{Outcome, Parser, peek, sees, rest_of, when_two}
-use Rattle.formal_grammar.specs.Exact.{Langs, Never, Begins, Took, Deeper, Stopped, IsBad, Exact, IsRule, Starts, Seconds}
-use Rattle.formal_grammar.proofs.Contexts.{peek-append, sees-peek, starts-sees, both_ways, bad_as, never_at, not_none}
+use Rattle.formal_grammar.specs.Exact.{Langs, Never, Begins, Took, Deeper, Stopped, Exact, IsRule, Starts, Seconds}
+use Rattle.formal_grammar.proofs.Contexts.{peek-append, sees-peek, starts-sees, both_ways, bad_as, never_at}
 use Rattle.formal_grammar.proofs.Choice.{exact_right, grows_choice, has_right}
 
 -- the first two tokens, where the text that stands in front isn't empty
@@ -43,10 +43,13 @@ module _ {T A : Type 0} (L M : Langs T A) (ext : T → Bool) (n : ℕ) (to : (m 
     where
       begins : (m : ℕ) (p : List T) → Begins L m p → Begins M m p
       begins m p y = record { more = y.more; value = y.value; text = to m (p ++ y.more) y.value y.text }
+
       filled : x.text ≡ [] → ⊥
       filled = past_first x.text x.rest x.whole (never_at L ext n x.text x.rest e.0 x.bad)
+
       never : (m : ℕ) → Never L ext m x.text x.rest → Never M ext m x.text x.rest
       never m none w b k other u apart same eq = none w b k other (from m w b k u apart (same_two x.text x.rest other s (w ++ k) x.whole filled eq same).1) apart same eq
+
       deeper : Deeper L n x.text x.rest → Deeper M n x.text x.rest
       deeper d = record { depth = d.depth; head = d.head; tail = d.tail; cons = d.cons; more = d.more; begins = begins d.depth (x.text ++ (d.head ∷ [])) d.begins }
 

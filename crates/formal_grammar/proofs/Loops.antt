@@ -1,11 +1,11 @@
 -- A `while` loop that reads parts, against the reading that repeats them.
-use Rattle.std.proofs.Common.{◌≡◌, ℕ, zero, suc, ◌<◌, ◌≤◌, Bool, true, false, List, [], ◌∷◌, ◌++◌, length, fold, flat_map, Result, Ok, Err, if◌then◌else◌, refl, sym, ap, subst, ◌∙◌, append-nil, append_assoc, arith, le_refl}
+use Rattle.std.proofs.Common.{◌≡◌, ℕ, zero, suc, ◌<◌, ◌≤◌, Bool, true, false, List, [], ◌∷◌, ◌++◌, length, fold, flat_map, Ok, Err, if◌then◌else◌, refl, sym, ap, subst, ◌∙◌, append-nil, append_assoc, arith, le_refl}
 use Rattle.std.specs.List.{push}
 use Rattle.formal_grammar.specs.declared.stop.Why.{Why}
 use Rattle.formal_grammar.specs.declared.stop.ReadError.{ReadError}
 use Rattle.formal_grammar.specs.declared.stop.ReadError.TheVariants as errors
 use Rattle.formal_grammar.specs.Parse.{Outcome, Parser, and_then, ◌>>◌, pure, accept, this, sees, turns, repeat, separated, Fails}
-use Rattle.formal_grammar.specs.Exact.{Langs, Took, Exact, IsRule, Starts}
+use Rattle.formal_grammar.specs.Exact.{Langs, Exact, IsRule, Starts}
 use Rattle.formal_grammar.proofs.Contexts.{both_ways}
 use Rattle.formal_grammar.proofs.Repeats.{took_less}
 
@@ -32,9 +32,9 @@ module _ {T A : Type 0} (f : T → Bool) (P : Parser T A) (less : Shrinks P) whe
   turns_enough (suc j) zero (t ∷ s) in_j in_k = absurd (omega (arith, in_k))
   turns_enough (suc j) (suc k) s in_j in_k =
       same_turns (sees f s) s (P s) (λ a u. and_then (turns f P j u) (λ later. pure (a ∷ later))) (λ a u. and_then (turns f P k u) (λ later. pure (a ∷ later)))
-        (λ a u e.
-          let lt : length u < length s = less.less s a u e in
-          ap (λ o. and_then o (λ later. pure (a ∷ later))) (turns_enough j k u (omega arith) (omega arith)))
+      (λ a u e.
+      let lt : length u < length s = less.less s a u e in
+      ap (λ o. and_then o (λ later. pure (a ∷ later))) (turns_enough j k u (omega arith) (omega arith)))
 
   repeat_one : (s : List T) (a : A) (u : List T) → sees f s ≡ true → P s ≡ Ok (a, u) → repeat f P s ≡ and_then (repeat f P u) (λ later. pure (a ∷ later))
   repeat_one [] a u sees-is e = absurd (both_ways sees-is refl)

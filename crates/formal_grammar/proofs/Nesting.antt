@@ -1,10 +1,10 @@
 -- One more level of nesting, and the level at which there is no more.
-use Rattle.std.proofs.Common.{◌≡◌, ℕ, zero, suc, ◌≤◌, Bool, true, false, List, [], ◌∷◌, ◌++◌, length, Ok, Err, if◌then◌else◌, inl, inr, refl, sym, ap, ◌∙◌, arith}
+use Rattle.std.proofs.Common.{◌≡◌, ℕ, zero, suc, ◌≤◌, Bool, true, false, List, [], ◌∷◌, ◌++◌, Ok, Err, if◌then◌else◌, inl, inr, refl, ap, ◌∙◌, arith}
 use Rattle.formal_grammar.specs.declared.stop.Why.{Why}
 use Rattle.formal_grammar.specs.declared.stop.Why.TheVariants.{Syntax, Deep}
 use Rattle.formal_grammar.specs.Lang.{◌or◌}
 use Rattle.formal_grammar.specs.Parse.{Outcome, Parser, peek, sees, stop, when}
-use Rattle.formal_grammar.specs.Exact.{Langs, Grows, Has, Never, Begins, Took, Deeper, Stopped, IsBad, Exact, IsRule, Starts, Joins, nested}
+use Rattle.formal_grammar.specs.Exact.{Langs, Grows, Has, Never, Begins, Took, IsBad, Exact, IsRule, Starts, Joins, nested}
 use Rattle.formal_grammar.proofs.Contexts.{sees-peek, starts-sees, both_ways}
 use Rattle.formal_grammar.proofs.Choice.{exact_right, grows_choice, has_right}
 

@@ -1,8 +1,8 @@
 -- Any number of parts, and lists with a separator.
-use Rattle.std.proofs.Common.{◌≡◌, ℕ, zero, suc, ◌+◌, ◌<◌, ◌≤◌, Bool, true, false, List, [], ◌∷◌, ◌++◌, length, Ok, Err, if◌then◌else◌, refl, sym, ap, subst, ◌∙◌, append-nil, arith, length-append, le_refl}
-use Rattle.formal_grammar.specs.Lang.{Lang, ◌>>=◌, ◌>>◌, gives, the, many, listed}
-use Rattle.formal_grammar.specs.Parse.{Outcome, Parser, and_then, pure, accept, this, peek, sees, turns, repeat, separated}
-use Rattle.formal_grammar.specs.Exact.{Langs, Within, Apart, Grows, Has, Took, Exact, IsRule, StartsIn, Starts, Joins}
+use Rattle.std.proofs.Common.{◌≡◌, ℕ, zero, suc, ◌+◌, ◌<◌, ◌≤◌, Bool, true, false, List, [], ◌∷◌, ◌++◌, length, Ok, if◌then◌else◌, refl, sym, ap, subst, ◌∙◌, append-nil, arith, length-append, le_refl}
+use Rattle.formal_grammar.specs.Lang.{◌>>=◌, ◌>>◌, gives, the, many, listed}
+use Rattle.formal_grammar.specs.Parse.{Outcome, Parser, and_then, pure, peek, sees, turns, repeat, separated}
+use Rattle.formal_grammar.specs.Exact.{Langs, Within, Apart, Grows, Took, Exact, IsRule, Starts}
 use Rattle.formal_grammar.proofs.Contexts.{sees-peek, sees-within, starts-sees, both_ways}
 use Rattle.formal_grammar.proofs.Widening.{exact_part}
 use Rattle.formal_grammar.proofs.Sequence.{exact_then, rule_then, rule_seq}
@@ -67,15 +67,15 @@ module _ {T A : Type 0} (p : Langs T A) where
       exact_one : (k : ℕ) (s : List T) → length s ≤ suc k → sees f s ≡ true → ((u : List T) → length u ≤ k → Exact (λ m. many (p m)) ext n u (turns f P k u)) → Exact (λ m. many (p m)) ext n s (and_then (P s) (λ a u. later_parts a k u))
       exact_one k s short opens rest_exact =
           exact_part some (λ m. many (p m)) ext ext n (λ t h. h) some_to_many s (many_to_some s opens) (and_then (P s) (λ a u. later_parts a k u))
-            (exact_then p (λ a m. many (p m) >>= λ later. gives (a ∷ later)) e1 ext n
-              (λ a. joins_then (joins_many apart starts e1-within) (λ later. joins_gives ext (a ∷ later) ext (λ t h. h)))
-              s (λ a u. later_parts a k u) (P s) x.grows
-              (λ a m le. record { text = []; value = a ∷ []; spells = record { front = []; back = []; value = []; first = refl; second = (refl, refl); whole = refl } })
-              (x.exact s)
-              (λ a u e.
-                let took : Took p e1 n s a u = subst (λ (o : Outcome T A). Exact p e1 n s o) e (x.exact s) in
-                let less : length u < length s = took_less starts took in
-                exact_later a k u (rest_exact u (omega arith))))
+          (exact_then p (λ a m. many (p m) >>= λ later. gives (a ∷ later)) e1 ext n
+          (λ a. joins_then (joins_many apart starts e1-within) (λ later. joins_gives ext (a ∷ later) ext (λ t h. h)))
+          s (λ a u. later_parts a k u) (P s) x.grows
+          (λ a m le. record { text = []; value = a ∷ []; spells = record { front = []; back = []; value = []; first = refl; second = (refl, refl); whole = refl } })
+          (x.exact s)
+          (λ a u e.
+          let took : Took p e1 n s a u = subst (λ (o : Outcome T A). Exact p e1 n s o) e (x.exact s) in
+          let less : length u < length s = took_less starts took in
+          exact_later a k u (rest_exact u (omega arith))))
 
       chosen : (k : ℕ) (s : List T) (b : Bool) → sees f s ≡ b → length s ≤ suc k → ((u : List T) → length u ≤ k → Exact (λ m. many (p m)) ext n u (turns f P k u)) → Exact (λ m. many (p m)) ext n s (if b then and_then (P s) (λ a u. later_parts a k u) else Ok ([], s))
       chosen k s true sees-is short rest_exact = exact_one k s short sees-is rest_exact
@@ -101,6 +101,6 @@ rule_listed {p = p} {P = P} {e1 = e1} {n = n} is t ext passes only apart is-with
     let item_starts : Starts is (λ m. the t >> p m) = starts_then {q = λ _. p} (starts_the passes) in
     let is-apart : Apart is e1 = λ u h. ap e1 (only u h) ∙ apart in
     rule_then {q = λ a m. many (the t >> p m) >>= λ later. gives (a ∷ later)}
-      (λ a. joins_then (joins_many is-apart item_starts e1-within) (λ later. joins_gives ext (a ∷ later) ext (λ u h. h)))
-      x
-      (λ a. rule_then {q = λ later m. gives (a ∷ later)} (λ later. joins_gives ext (a ∷ later) ext (λ u h. h)) (rule_many is ext item_starts is-apart is-within e1-within item) (λ later. rule_gives (a ∷ later) ext n))
+    (λ a. joins_then (joins_many is-apart item_starts e1-within) (λ later. joins_gives ext (a ∷ later) ext (λ u h. h)))
+    x
+    (λ a. rule_then {q = λ later m. gives (a ∷ later)} (λ later. joins_gives ext (a ∷ later) ext (λ u h. h)) (rule_many is ext item_starts is-apart is-within e1-within item) (λ later. rule_gives (a ∷ later) ext n))

@@ -1,5 +1,5 @@
 -- The laws of the sample's lines: each reading is exact for its line of the grammar.
-use Rattle.std.proofs.Common.{◌≡◌, ℕ, zero, suc, ◌≤◌, Bool, true, false, List, [], ◌∷◌, refl, ap, ◌∙◌, arith, inl, inr, Option, Some, is_some}
+use Rattle.std.proofs.Common.{◌≡◌, ℕ, zero, suc, ◌≤◌, Bool, true, false, List, [], ◌∷◌, refl, ap, arith, inl, inr, Some, is_some}
 use denote.Enum.Bare.{same_true, true_same}
 use Rattle.formal_grammar.specs.contracts.sample.Sign.{the_type}
 use Rattle.formal_grammar.specs.declared.sample.Sign.{Sign}
@@ -9,15 +9,15 @@ use Rattle.formal_grammar.specs.declared.sample.Token.TheVariants as token
 use Rattle.formal_grammar.specs.declared.sample.Expr.{Expr}
 use Rattle.formal_grammar.specs.declared.sample.Expr.TheVariants as expr
 use Rattle.formal_grammar.specs.Lang.{Lang, ◌>>=◌, ◌>>◌, ◌or◌, gives, the}
-use Rattle.formal_grammar.specs.Parse.{Parser, and_then, pure, stop, accept, this, when}
-use Rattle.formal_grammar.specs.Exact.{Langs, none, either, Apart, Grows, Has, Begins, IsRule, Starts, Joins, nested}
+use Rattle.formal_grammar.specs.Parse.{Parser, and_then, pure, accept, this}
+use Rattle.formal_grammar.specs.Exact.{Langs, none, either, Grows, Begins, IsRule, Starts, Joins, nested}
 use Rattle.formal_grammar.specs.SampleGrammar.{number_of, number, mark, sum_of, bracketed, item, sum}
 use Rattle.formal_grammar.specs.SampleReading as read
 use Rattle.formal_grammar.specs.SampleReading.{is}
 use Rattle.formal_grammar.proofs.Sets.{within_same, within_none, within_left, within_right, apart_one}
 use Rattle.formal_grammar.proofs.Sequence.{rule_then, rule_seq}
 use Rattle.formal_grammar.proofs.Single.{rule_gives, rule_shown, rule_the}
-use Rattle.formal_grammar.proofs.Joins.{starts_then, starts_or, starts_shown, starts_the, starts_nested, joins_none, joins_gives, joins_starts, joins_the, joins_then, joins_skip}
+use Rattle.formal_grammar.proofs.Joins.{starts_then, starts_shown, starts_the, starts_nested, joins_none, joins_gives, joins_starts, joins_the, joins_then, joins_skip}
 use Rattle.formal_grammar.proofs.Choice.{rule_when, rule_optional}
 use Rattle.formal_grammar.proofs.Repeats.{rule_listed}
 use Rattle.formal_grammar.proofs.Nesting.{grows_nested, rule_nested, rule_floor}
@@ -53,8 +53,8 @@ mark_rule : (n : ℕ) → IsRule (λ m. mark) read.mark goes_on n
 unfolding read.mark
 mark_rule n =
     rule_then {q = λ o m. gives (is_some o)} (λ o. joins_gives goes_on (is_some o) goes_on (within_same goes_on))
-      (rule_optional (is Bang) goes_on (starts_the (passes Bang)) (within_right (is Plus) (is Bang)) (within_none goes_on) (the_rule Bang n))
-      (λ o. rule_gives (is_some o) goes_on n)
+    (rule_optional (is Bang) goes_on (starts_the (passes Bang)) (within_right (is Plus) (is Bang)) (within_none goes_on) (the_rule Bang n))
+    (λ o. rule_gives (is_some o) goes_on n)
 
 -- a mark doesn't begin with a plus
 joins_mark : Joins (is Plus) (λ m. mark) goes_on
@@ -64,9 +64,9 @@ sum_rule : {L : Langs Token Expr} {P : Parser Token Expr} {n : ℕ} → IsRule L
 unfolding read.sum
 sum_rule {n = n} x =
     rule_then {q = λ items m. mark >>= λ marked. gives (expr.Sum items marked)}
-      (λ items. joins_then joins_mark (λ marked. joins_gives goes_on (expr.Sum items marked) goes_on (within_same goes_on)))
-      (rule_listed (is Plus) (token.Sign Plus) (is Plus) (passes Plus) (only Plus) refl (within_same (is Plus)) (within_none (is Plus)) x)
-      (λ items. rule_then {q = λ marked m. gives (expr.Sum items marked)} (λ marked. joins_gives goes_on (expr.Sum items marked) goes_on (within_same goes_on)) (mark_rule n) (λ marked. rule_gives (expr.Sum items marked) goes_on n))
+    (λ items. joins_then joins_mark (λ marked. joins_gives goes_on (expr.Sum items marked) goes_on (within_same goes_on)))
+    (rule_listed (is Plus) (token.Sign Plus) (is Plus) (passes Plus) (only Plus) refl (within_same (is Plus)) (within_none (is Plus)) x)
+    (λ items. rule_then {q = λ marked m. gives (expr.Sum items marked)} (λ marked. joins_gives goes_on (expr.Sum items marked) goes_on (within_same goes_on)) (mark_rule n) (λ marked. rule_gives (expr.Sum items marked) goes_on n))
 
 -- what stands behind an opening bracket
 abbrev inside : Lang Token Expr → Lang Token Expr
@@ -75,9 +75,9 @@ inside p = p >>= λ e. the (token.Sign Close) >> gives e
 inside_rule : {L : Langs Token Expr} {P : Parser Token Expr} {n : ℕ} → IsRule L P goes_on n → IsRule (λ m. inside (L m)) (λ s. and_then (P s) (λ e u. and_then (accept (this (is Close)) u) (λ _. pure e))) none n
 inside_rule {n = n} x =
     rule_then {q = λ e m. the (token.Sign Close) >> gives e}
-      (λ e. joins_then {between = none} (joins_the refl) (λ _. joins_none))
-      x
-      (λ e. rule_seq (the_rule Close n) (λ _. rule_gives e none n))
+    (λ e. joins_then {between = none} (joins_the refl) (λ _. joins_none))
+    x
+    (λ e. rule_seq (the_rule Close n) (λ _. rule_gives e none n))
 
 bracketed_rule : {L : Langs Token Expr} {P : Parser Token Expr} {n : ℕ} → IsRule L P goes_on n → IsRule (λ m. bracketed (L m)) (read.bracketed P) none n
 unfolding read.bracketed

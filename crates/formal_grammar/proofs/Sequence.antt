@@ -1,9 +1,9 @@
 -- One part and then another: the parser that reads both is exact for the language of both.
-use Rattle.std.proofs.Common.{◌≡◌, ℕ, ◌≤◌, Bool, true, false, List, [], ◌∷◌, ◌++◌, Result, Ok, Err, refl, sym, ap, subst, ◌∙◌, append_assoc, le_refl}
+use Rattle.std.proofs.Common.{◌≡◌, ℕ, ◌≤◌, Bool, false, List, [], ◌∷◌, ◌++◌, Ok, Err, refl, sym, ap, subst, ◌∙◌, append_assoc, le_refl}
 use Rattle.std.proofs.lemmas.List.{append_cancel_left}
 use Rattle.formal_grammar.specs.declared.stop.Why.{Why}
-use Rattle.formal_grammar.specs.Lang.{Then, ◌>>=◌}
-use Rattle.formal_grammar.specs.Parse.{Outcome, Parser, and_then, peek, sees, pure}
+use Rattle.formal_grammar.specs.Lang.{◌>>=◌}
+use Rattle.formal_grammar.specs.Parse.{Outcome, Parser, and_then, peek, sees}
 use Rattle.formal_grammar.specs.Exact.{Langs, Grows, Has, Never, Begins, Took, Deeper, Stopped, Exact, IsRule, Joins, none}
 use Rattle.formal_grammar.proofs.Contexts.{peek-append, sees-none, bad_as}
 
@@ -43,9 +43,9 @@ module _ {T A B : Type 0} (p : Langs T A) (q : A → Langs T B) (e1 e2 : T → B
     whole = x.whole ∙ ap (λ (z : List T). x.text ++ z) y.whole ∙ sym (append_assoc x.text y.text rest);
     spells = record { front = x.text; back = y.text; value = a; first = x.spells; second = y.spells; whole = refl };
     only = λ m w c k other t apart same e.
-      let h = behind s u a x y.text rest y.whole m w c k other t apart same e in
-      let two = y.only m h.back c k other h.second apart same h.context in
-      (h.whole ∙ ap (λ (z : List T). x.text ++ z) two.0, two.1);
+        let h = behind s u a x y.text rest y.whole m w c k other t apart same e in
+        let two = y.only m h.back c k other h.second apart same h.context in
+        (h.whole ∙ ap (λ (z : List T). x.text ++ z) two.0, two.1);
   }
 
   -- a first part with the beginning of a second one
@@ -81,6 +81,7 @@ module _ {T A B : Type 0} (p : Langs T A) (q : A → Langs T B) (e1 e2 : T → B
       never m none w c k other t apart same eq =
           let h = behind s u a x y.text y.rest y.whole m w c k other t apart same eq in
           none h.back c k other h.second apart same h.context
+
       deeper : Deeper (q a) n y.text y.rest → Deeper both n (x.text ++ y.text) y.rest
       deeper d = record {
         depth = d.depth;
@@ -104,6 +105,7 @@ module _ {T A B : Type 0} (p : Langs T A) (q : A → Langs T B) (e1 e2 : T → B
     where
       never : (m : ℕ) → Never p e1 m x.text x.rest → Never both e2 m x.text x.rest
       never m none w c k other t apart same eq = none t.front t.value (t.back ++ k) other t.first (first_context m w c k t apart) same (first_whole m w c k (x.text ++ other) t eq)
+
       deeper : Deeper p n x.text x.rest → Deeper both n x.text x.rest
       deeper d = record {
         depth = d.depth;

@@ -1,7 +1,7 @@
 -- One token, or none.
-use Rattle.std.proofs.Common.{◌≡◌, ℕ, Bool, true, false, List, [], ◌∷◌, ◌++◌, Option, Some, None, refl, sym, ap, ◌∙◌}
+use Rattle.std.proofs.Common.{◌≡◌, ℕ, Bool, true, false, List, [], ◌∷◌, Option, Some, None, refl, sym, ap, ◌∙◌}
 use Rattle.formal_grammar.specs.Lang.{gives, shown, the}
-use Rattle.formal_grammar.specs.Parse.{Parser, pure, accepted, accept, this, peek}
+use Rattle.formal_grammar.specs.Parse.{pure, accepted, accept, this}
 use Rattle.formal_grammar.specs.Exact.{Langs, none, Begins, Exact, IsRule}
 use Rattle.formal_grammar.proofs.Contexts.{peek_first, some_is, not_none}
 use Rattle.formal_grammar.proofs.Widening.{rule_same}
@@ -29,8 +29,8 @@ module _ {T A : Type 0} (view : T → Option A) (t0 : T) (a0 : A) (shows : view 
     whole = refl;
     spells = (t, refl, e);
     only = λ m w b k other u apart same eq.
-      let same_token : u.0 ≡ t = some_is (sym (peek_first w k (t ∷ other) u.1 eq)) in
-      (u.1 ∙ ap (λ (z : T). z ∷ []) same_token, some_is (sym u.2 ∙ ap view same_token ∙ e));
+        let same_token : u.0 ≡ t = some_is (sym (peek_first w k (t ∷ other) u.1 eq)) in
+        (u.1 ∙ ap (λ (z : T). z ∷ []) same_token, some_is (sym u.2 ∙ ap view same_token ∙ e));
   }
   accepted_exact t s None e = record {
     text = [];
@@ -39,8 +39,8 @@ module _ {T A : Type 0} (view : T → Option A) (t0 : T) (a0 : A) (shows : view 
     at = refl;
     begins = begins_none;
     bad = λ m w b k other u apart same eq.
-      let same_token : u.0 ≡ t = some_is (sym (peek_first w k other u.1 eq) ∙ same) in
-      not_none (sym u.2 ∙ ap view same_token ∙ e);
+        let same_token : u.0 ≡ t = some_is (sym (peek_first w k other u.1 eq) ∙ same) in
+        not_none (sym u.2 ∙ ap view same_token ∙ e);
   }
 
   accept_exact : (s : List T) → Exact one none n s (accept view s)
@@ -72,6 +72,6 @@ passed is t false a e shows = absurd (not_none (sym shows ∙ rw e refl))
 pub rule_the : {T : Type 0} (is : T → Bool) (t0 : T) → is t0 ≡ true → ((t : T) → is t ≡ true → t ≡ t0) → (n : ℕ) → IsRule (λ m. the t0) (accept (this is)) none n
 rule_the {T = T} is t0 passes only n =
     rule_same (λ m. the t0)
-      (λ m w a u. u.1 ∙ ap (λ (z : T). z ∷ []) (only u.0 (passed is u.0 (is u.0) a refl u.2)))
-      (λ m w a e. (t0, e, rw passes refl))
-      (rule_shown (this is) t0 tt (rw passes refl) n)
+    (λ m w a u. u.1 ∙ ap (λ (z : T). z ∷ []) (only u.0 (passed is u.0 (is u.0) a refl u.2)))
+    (λ m w a e. (t0, e, rw passes refl))
+    (rule_shown (this is) t0 tt (rw passes refl) n)

@@ -1,10 +1,10 @@
 -- What a rule says of the whole of the tokens.
-use Rattle.std.proofs.Common.{◌≡◌, ℕ, zero, suc, ◌+◌, ◌-◌, ◌<◌, ◌≤◌, max, Bool, false, List, [], ◌∷◌, ◌++◌, length, take, Option, Some, None, Result, Ok, Err, refl, sym, ap, subst, ◌∙◌, append-nil, append_assoc, arith, length-append, le_refl}
+use Rattle.std.proofs.Common.{◌≡◌, ℕ, suc, ◌+◌, ◌-◌, ◌≤◌, Bool, List, [], ◌∷◌, ◌++◌, length, take, Some, Result, Ok, Err, refl, sym, ap, subst, ◌∙◌, append-nil, append_assoc, arith, length-append}
 use Rattle.std.proofs.lemmas.List.{take_at, append_cancel_left}
 use Rattle.formal_grammar.specs.declared.stop.Why.{Why}
 use Rattle.formal_grammar.specs.declared.stop.Why.TheVariants.{Syntax, Deep}
-use Rattle.formal_grammar.specs.Parse.{Outcome, Parser, peek, sees, ended, all_of}
-use Rattle.formal_grammar.specs.Exact.{Langs, none, Grows, Never, Begins, Took, Deeper, Stopped, IsBad, Exact, IsRule}
+use Rattle.formal_grammar.specs.Parse.{Outcome, Parser, peek, ended, all_of}
+use Rattle.formal_grammar.specs.Exact.{Langs, Never, Begins, Took, Stopped, Exact, IsRule}
 use Rattle.formal_grammar.specs.Fault.{Agrees, IsSyntaxFault, IsDeepFault, IsOnly, IsFault, Judges}
 use Rattle.formal_grammar.proofs.Contexts.{never_at, not_none}
 
@@ -141,7 +141,7 @@ pub found_by : {T A : Type 0} {L : Langs T A} {ext : T → Bool} {n : ℕ} {P : 
 found_by {L = L} {n = n} rule s a e = subst (λ r. Judges L n s r) e (judges rule s)
 
 -- The refusal is a fault of its kind at its place.
-pub fault_by : {T A : Type 0} {L : Langs T A} {ext : T → Bool} {n : ℕ} {P : Parser T A} → IsRule L P ext n → (s : List T) (why : Why) (left : ℕ) → all_of P s ≡ Err (why, left) → IsFault why L n s (length s - left) × (left ≤ length s)
+fault_by : {T A : Type 0} {L : Langs T A} {ext : T → Bool} {n : ℕ} {P : Parser T A} → IsRule L P ext n → (s : List T) (why : Why) (left : ℕ) → all_of P s ≡ Err (why, left) → IsFault why L n s (length s - left) × (left ≤ length s)
 fault_by {L = L} {n = n} rule s why left e = subst (λ r. Judges L n s r) e (judges rule s)
 
 -- What is spelled is what was found.
@@ -154,3 +154,14 @@ ok_is_not_err e = cc
 -- What is spelled is not refused.
 pub not_refused_by : {T A : Type 0} {L : Langs T A} {ext : T → Bool} {n : ℕ} {P : Parser T A} → IsRule L P ext n → (s : List T) (why : Why) (left : ℕ) (b : A) → all_of P s ≡ Err (why, left) → L n s b → ⊥
 not_refused_by rule s why left b e t = ok_is_not_err (sym (is_read rule s b t) ∙ e)
+
+-- A refusal by syntax is a fault at its place, and so is one by depth.
+pub syntax_by : {T A : Type 0} {L : Langs T A} {ext : T → Bool} {n : ℕ} {P : Parser T A} → IsRule L P ext n → (s : List T) (left at : ℕ) → all_of P s ≡ Err (Syntax, left) → length s - left ≡ at → IsSyntaxFault L n s at
+syntax_by {L = L} {n = n} rule s left at e place = subst (λ k. IsSyntaxFault L n s k) place (fault_by rule s Syntax left e).0
+
+pub deep_by : {T A : Type 0} {L : Langs T A} {ext : T → Bool} {n : ℕ} {P : Parser T A} → IsRule L P ext n → (s : List T) (left at : ℕ) → all_of P s ≡ Err (Deep, left) → length s - left ≡ at → IsDeepFault L n s at
+deep_by {L = L} {n = n} rule s left at e place = subst (λ k. IsDeepFault L n s k) place (fault_by rule s Deep left e).0
+
+-- A refusal leaves no more tokens than there were.
+pub left_within : {T A : Type 0} {L : Langs T A} {ext : T → Bool} {n : ℕ} {P : Parser T A} → IsRule L P ext n → (s : List T) (why : Why) (left : ℕ) → all_of P s ≡ Err (why, left) → left ≤ length s
+left_within rule s why left e = (fault_by rule s why left e).1

@@ -26,8 +26,10 @@ module _ {T A : Type 0} (L M : Langs T A) (e1 e2 : T → Bool) (n : ℕ) (within
     where
       begins : (m : ℕ) (p : List T) → Begins L m p → Begins M m p
       begins m p y = record { more = y.more; value = y.value; text = to m (p ++ y.more) y.value y.text }
+
       never : (m : ℕ) → Never L e1 m x.text x.rest → Never M e2 m x.text x.rest
       never m none w b k other t apart same eq = none w b k other (from m w b k t apart (ap peek eq ∙ peek-append x.text other x.rest same ∙ ap peek (sym x.whole))) (sees-within within k apart) same eq
+
       deeper : Deeper L n x.text x.rest → Deeper M n x.text x.rest
       deeper d = record { depth = d.depth; head = d.head; tail = d.tail; cons = d.cons; more = d.more; begins = begins d.depth (x.text ++ (d.head ∷ [])) d.begins }
 

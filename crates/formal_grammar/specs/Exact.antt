@@ -1,7 +1,7 @@
 -- A parser is exact for a language if it takes the one text that stands in front, and else stops at the first
 -- token with which no text agrees. Contexts are ruled by `ext`, the tokens that would go on with a text: what
 -- stands behind a text never begins with one of them.
-use Rattle.std.specs.Prelude.{◌≡◌, ℕ, zero, suc, ◌<◌, ◌≤◌, Bool, true, false, ◌||◌, List, [], ◌∷◌, ◌++◌, length, Ok, Err}
+use Rattle.std.specs.Prelude.{◌≡◌, ℕ, zero, suc, ◌≤◌, Bool, true, false, ◌||◌, List, [], ◌∷◌, ◌++◌, length, Ok, Err}
 use Rattle.formal_grammar.specs.declared.stop.Why.{Why}
 use Rattle.formal_grammar.specs.declared.stop.Why.TheVariants.{Syntax, Deep}
 use Rattle.formal_grammar.specs.Lang.{Lang}

@@ -1,7 +1,7 @@
 -- Parsers as functions on lists: the reading that the code of a parser follows, in the words of the grammar.
-use Rattle.std.specs.Prelude.{◌≡◌, ℕ, zero, suc, Bool, true, false, List, [], ◌∷◌, length, Option, Some, None, Result, Ok, Err, if◌then◌else◌}
+use Rattle.std.specs.Prelude.{◌≡◌, ℕ, zero, suc, Bool, false, List, [], ◌∷◌, length, Option, Some, None, Result, Ok, Err, if◌then◌else◌}
 use Rattle.formal_grammar.specs.declared.stop.Why.{Why}
-use Rattle.formal_grammar.specs.declared.stop.Why.TheVariants.{Syntax, Deep}
+use Rattle.formal_grammar.specs.declared.stop.Why.TheVariants.{Syntax}
 use Rattle.formal_grammar.specs.declared.stop.ReadError.{ReadError}
 use Rattle.formal_grammar.specs.declared.stop.ReadError.TheVariants as errors
 

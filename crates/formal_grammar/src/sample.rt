@@ -53,13 +53,13 @@ pub const MAX_DEPTH: u32 = 4;
 /// The sum that the tokens spell.
 pub fn parse(alloc: Global, tokens: &[Token]) -> Result<Expr, ParseFault>
     // What is found is what the tokens spell, and they spell nothing else.
-    ensures found { IfOk result (λ t. IsOnly (λ m. grammar.sum m) MAX_DEPTH tokens.now t) }
+    ensures found { IfOk result (λ t. IsOnly (λ m. grammar.sum m) 4 tokens.now t) }
     // What is spelled is found, unless memory runs out.
-    ensures complete { (t : _) → grammar.sum MAX_DEPTH tokens.now t → MatchResult result (λ u. u ≡ t) (λ e. e ≡ ParseFault.Memory) }
+    ensures complete { (t : _) → grammar.sum 4 tokens.now t → MatchResult result (λ u. u ≡ t) (λ e. e ≡ ParseFault.Memory) }
     // The tokens before this place begin a sum, and with the token there they begin none, however deep.
-    ensures syntax { (at : ℕ) → result ≡ Err (ParseFault.Syntax at) → IsSyntaxFault (λ m. grammar.sum m) MAX_DEPTH tokens.now at }
+    ensures syntax { (at : ℕ) → result ≡ Err (ParseFault.Syntax at) → IsSyntaxFault (λ m. grammar.sum m) 4 tokens.now at }
     // With the token at this place the tokens begin only sums with more open brackets than are allowed.
-    ensures deep { (at : ℕ) → result ≡ Err (ParseFault.Deep at) → IsDeepFault (λ m. grammar.sum m) MAX_DEPTH tokens.now at }
+    ensures deep { (at : ℕ) → result ≡ Err (ParseFault.Deep at) → IsDeepFault (λ m. grammar.sum m) 4 tokens.now at }
 {
     match whole(alloc, tokens) {
         Ok(expr) => Ok(expr),
@@ -72,8 +72,7 @@ pub fn parse(alloc: Global, tokens: &[Token]) -> Result<Expr, ParseFault>
 /// A law: tokens spell one sum at most, whatever the depth.
 pub fn one_tree()
     ensures { (m n : ℕ) (tokens : List Token) (t u : _) → grammar.sum m tokens t → grammar.sum n tokens u → t ≡ u }
-{
-}
+{}
 
 fn whole(alloc: Global, tokens: &[Token]) -> Result<Expr, ReadError>
     ensures { Gives (λ x. x) result (all_of (read.sum (read.item MAX_DEPTH)) tokens.now) }

@@ -1,4 +1,4 @@
-use Rattle.std.proofs.Common.{◌≡◌, ℕ, ◌+◌, ◌*◌, length}
+use Rattle.std.proofs.Common.{◌≡◌, ◌+◌, ◌*◌, length}
 use Rattle.std.specs.List.{push}
 use Rattle.formal_grammar.specs.declared.sample.Sign.TheVariants.{Plus}
 use Rattle.formal_grammar.specs.Parse.{repeat, separated}
