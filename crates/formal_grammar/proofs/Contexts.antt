@@ -54,11 +54,11 @@ pub both_ways : {b : Bool} → b ≡ true → b ≡ false → ⊥
 both_ways passes fails = cc
 
 -- A refusal in one language is a refusal in another, if what never agrees and what is deeper is so there too.
-pub bad_as : {T A B : Type 0} {L : Langs T A} {M : Langs T B} {e1 e2 : T → Bool} {n k : ℕ} {p q rest : List T} (why : Why) → ((m : ℕ) → Never L e1 m p rest → Never M e2 m q rest) → (Never L e1 n p rest → Never M e2 k q rest) → (Deeper L n p rest → Deeper M k q rest) → IsBad why L e1 n p rest → IsBad why M e2 k q rest
+pub bad_as : {T A B : Type 0} {opens : T → Bool} {L : Langs T A} {M : Langs T B} {e1 e2 : T → Bool} {n k : ℕ} {p q rest : List T} (why : Why) → ((m : ℕ) → Never L e1 m p rest → Never M e2 m q rest) → (Never L e1 n p rest → Never M e2 k q rest) → (Deeper opens L n p rest → Deeper opens M k q rest) → IsBad why opens L e1 n p rest → IsBad why opens M e2 k q rest
 bad_as Syntax never here deeper bad = λ m. never m (bad m)
 bad_as Deep never here deeper bad = (here bad.0, deeper bad.1)
 
 -- What is refused never agrees at its own depth.
-pub never_at : {T A : Type 0} (L : Langs T A) (ext : T → Bool) (n : ℕ) (p rest : List T) (why : Why) → IsBad why L ext n p rest → Never L ext n p rest
-never_at L ext n p rest Syntax bad = bad n
-never_at L ext n p rest Deep bad = bad.0
+pub never_at : {T A : Type 0} (opens : T → Bool) (L : Langs T A) (ext : T → Bool) (n : ℕ) (p rest : List T) (why : Why) → IsBad why opens L ext n p rest → Never L ext n p rest
+never_at opens L ext n p rest Syntax bad = bad n
+never_at opens L ext n p rest Deep bad = bad.0

@@ -1,6 +1,6 @@
 -- What stands first where a text stands: the conditions at each join of two parts.
 use Rattle.std.proofs.Common.{◌≡◌, ℕ, zero, suc, Bool, true, false, List, [], ◌∷◌, ◌++◌, Option, Some, None, ◌⊎◌, inl, inr, refl, ap, ◌∙◌, append_assoc}
-use Rattle.formal_grammar.specs.Lang.{◌>>=◌, ◌or◌, gives, shown, the, optional, many}
+use Rattle.formal_grammar.specs.Lang.{◌>>=◌, ◌or◌, gives, shown, the, optional, many, listed}
 use Rattle.formal_grammar.specs.Parse.{sees}
 use Rattle.formal_grammar.specs.Exact.{Langs, none, Within, Apart, StartsIn, Starts, Joins, nested}
 use Rattle.formal_grammar.proofs.Contexts.{sees-none, sees-within, both_ways}
@@ -46,6 +46,10 @@ starts_wider {f = f} {g = g} within starts = record {
 -- Texts that are among others begin as those do.
 pub starts_among : {T A : Type 0} {f : T → Bool} {L M : Langs T A} → ((m : ℕ) (w : List T) (a : A) → M m w a → L m w a) → Starts f L → Starts f M
 starts_among among starts = record { first = λ m w a t. starts.first m w a (among m w a t) }
+
+-- A list begins as its parts do.
+pub starts_listed : {T A : Type 0} {f : T → Bool} {t : T} {p : Langs T A} → Starts f p → Starts f (λ m. listed t (p m))
+starts_listed starts = record { first = λ m w b x. starts_first w x.front x.back x.whole (starts.first m x.front x.value x.first) }
 
 -- Nested texts begin as all do.
 pub starts_nested : {T A : Type 0} {f : T → Bool} {L : Langs T A} → Starts f L → Starts f (nested L)

@@ -13,7 +13,7 @@ same_two [] rest other s x whole some e same = absurd (some refl)
 same_two (t ∷ text) rest other s x whole some e same =
     (ap peek e ∙ sym (ap peek whole), ap (λ z. peek (rest_of z)) e ∙ peek-append text other rest same ∙ sym (ap (λ z. peek (rest_of z)) whole))
 
-module _ {T A : Type 0} (L M : Langs T A) (ext : T → Bool) (n : ℕ) (to : (m : ℕ) (w : List T) (a : A) → L m w a → M m w a) (s : List T) (some : (m : ℕ) (a : A) → L m [] a → ⊥) (t : T) (tail : List T) (cons : s ≡ t ∷ tail) (opens : Begins L n (t ∷ [])) (from : (m : ℕ) (w : List T) (a : A) (k : List T) → M m w a → sees ext k ≡ false → peek (rest_of (w ++ k)) ≡ peek (rest_of s) → L m w a) where
+module _ {T A : Type 0} (opens : T → Bool) (L M : Langs T A) (ext : T → Bool) (n : ℕ) (to : (m : ℕ) (w : List T) (a : A) → L m w a → M m w a) (s : List T) (some : (m : ℕ) (a : A) → L m [] a → ⊥) (t : T) (tail : List T) (cons : s ≡ t ∷ tail) (first_is : Begins L n (t ∷ [])) (from : (m : ℕ) (w : List T) (a : A) (k : List T) → M m w a → sees ext k ≡ false → peek (rest_of (w ++ k)) ≡ peek (rest_of s) → L m w a) where
   took_pair : (a : A) (rest : List T) → Took L ext n s a rest → Took M ext n s a rest
   took_pair a rest x = record {
     text = x.text;
@@ -29,9 +29,9 @@ module _ {T A : Type 0} (L M : Langs T A) (ext : T → Bool) (n : ℕ) (to : (m 
   past_first : (text rest : List T) → s ≡ text ++ rest → Never L ext n text rest → text ≡ [] → ⊥
   past_first text rest whole none e =
       let first : peek rest ≡ peek (t ∷ tail) = sym (ap (λ z. peek (z ++ rest)) e) ∙ sym (ap peek whole) ∙ ap peek cons in
-      none ((t ∷ []) ++ opens.more) opens.value [] (t ∷ opens.more) opens.text refl (sym first) (append-nil (t ∷ opens.more) ∙ sym (ap (λ z. z ++ (t ∷ opens.more)) e))
+      none ((t ∷ []) ++ first_is.more) first_is.value [] (t ∷ first_is.more) first_is.text refl (sym first) (append-nil (t ∷ first_is.more) ∙ sym (ap (λ z. z ++ (t ∷ first_is.more)) e))
 
-  stopped_pair : (e : Why × ℕ) → Stopped L ext n s e.0 e.1 → Stopped M ext n s e.0 e.1
+  stopped_pair : (e : Why × ℕ) → Stopped opens L ext n s e.0 e.1 → Stopped opens M ext n s e.0 e.1
   stopped_pair e x = record {
     text = x.text;
     rest = x.rest;
@@ -45,47 +45,47 @@ module _ {T A : Type 0} (L M : Langs T A) (ext : T → Bool) (n : ℕ) (to : (m 
       begins m p y = record { more = y.more; value = y.value; text = to m (p ++ y.more) y.value y.text }
 
       filled : x.text ≡ [] → ⊥
-      filled = past_first x.text x.rest x.whole (never_at L ext n x.text x.rest e.0 x.bad)
+      filled = past_first x.text x.rest x.whole (never_at opens L ext n x.text x.rest e.0 x.bad)
 
       never : (m : ℕ) → Never L ext m x.text x.rest → Never M ext m x.text x.rest
       never m none w b k other u apart same eq = none w b k other (from m w b k u apart (same_two x.text x.rest other s (w ++ k) x.whole filled eq same).1) apart same eq
 
-      deeper : Deeper L n x.text x.rest → Deeper M n x.text x.rest
-      deeper d = record { depth = d.depth; head = d.head; tail = d.tail; cons = d.cons; more = d.more; begins = begins d.depth (x.text ++ (d.head ∷ [])) d.begins }
+      deeper : Deeper opens L n x.text x.rest → Deeper opens M n x.text x.rest
+      deeper d = record { depth = d.depth; head = d.head; tail = d.tail; cons = d.cons; opening = d.opening; more = d.more; begins = begins d.depth (x.text ++ (d.head ∷ [])) d.begins }
 
   -- Of the larger language only texts of the smaller one have the second token of s, so at s the same outcome is exact for both.
-  exact_pair : (out : Outcome T A) → Exact L ext n s out → Exact M ext n s out
+  exact_pair : (out : Outcome T A) → Exact opens L ext n s out → Exact opens M ext n s out
   exact_pair (Ok y) exact = took_pair y.0 y.1 exact
   exact_pair (Err e) exact = stopped_pair e exact
 
-module _ {T A : Type 0} (p q : Langs T A) (ext g h : T → Bool) (n : ℕ) (starts_p : Starts g p) (starts_q : Starts g q) (second_p : Seconds h true p ext) (second_q : Seconds h false q ext) (opens_p : (t : T) → g t ≡ true → Begins p n (t ∷ [])) (opens_q : (t : T) → g t ≡ true → Begins q n (t ∷ [])) where
+module _ {T A : Type 0} (opens : T → Bool) (p q : Langs T A) (ext g h : T → Bool) (n : ℕ) (starts_p : Starts g p) (starts_q : Starts g q) (second_p : Seconds h true p ext) (second_q : Seconds h false q ext) (heads_p : (t : T) → g t ≡ true → Begins p n (t ∷ [])) (heads_q : (t : T) → g t ≡ true → Begins q n (t ∷ [])) where
   abbrev choice : Langs T A
   choice m = p m or q m
 
   not_empty : (L : Langs T A) → Starts g L → (m : ℕ) (a : A) → L m [] a → ⊥
   not_empty L starts m a x = both_ways (starts-sees [] [] (starts.first m [] a x)) refl
 
-  second_chosen : (t : T) (s : List T) (b : Bool) (x y : Outcome T A) → g t ≡ true → sees h s ≡ b → Exact p ext n (t ∷ s) x → Exact q ext n (t ∷ s) y → Exact choice ext n (t ∷ s) (if b then x else y)
-  second_chosen t s true x y opens sees-is left right = exact_pair p choice ext n (λ m w a u. inl u) (t ∷ s) (not_empty p starts_p) t s refl (opens_p t opens) from x left
+  second_chosen : (t : T) (s : List T) (b : Bool) (x y : Outcome T A) → g t ≡ true → sees h s ≡ b → Exact opens p ext n (t ∷ s) x → Exact opens q ext n (t ∷ s) y → Exact opens choice ext n (t ∷ s) (if b then x else y)
+  second_chosen t s true x y passes sees-is left right = exact_pair opens p choice ext n (λ m w a u. inl u) (t ∷ s) (not_empty p starts_p) t s refl (heads_p t passes) from x left
     where
       from : (m : ℕ) (w : List T) (a : A) (k : List T) → choice m w a → sees ext k ≡ false → peek (rest_of (w ++ k)) ≡ peek s → p m w a
       from m w a k (inl u) apart same = u
       from m w a k (inr u) apart same = absurd (both_ways (sees-peek h (rest_of (w ++ k)) s same ∙ sees-is) (second_q.second m w a k u apart))
-  second_chosen t s false x y opens sees-is left right = exact_pair q choice ext n (λ m w a u. inr u) (t ∷ s) (not_empty q starts_q) t s refl (opens_q t opens) from y right
+  second_chosen t s false x y passes sees-is left right = exact_pair opens q choice ext n (λ m w a u. inr u) (t ∷ s) (not_empty q starts_q) t s refl (heads_q t passes) from y right
     where
       from : (m : ℕ) (w : List T) (a : A) (k : List T) → choice m w a → sees ext k ≡ false → peek (rest_of (w ++ k)) ≡ peek s → q m w a
       from m w a k (inl u) apart same = absurd (both_ways (second_p.second m w a k u apart) (sees-peek h (rest_of (w ++ k)) s same ∙ sees-is))
       from m w a k (inr u) apart same = u
 
-  two_chosen : (s : List T) (b : Bool) (x y : Outcome T A) → sees g s ≡ b → Exact p ext n s x → Exact q ext n s y → Exact choice ext n s (if b then (if sees h (rest_of s) then x else y) else y)
+  two_chosen : (s : List T) (b : Bool) (x y : Outcome T A) → sees g s ≡ b → Exact opens p ext n s x → Exact opens q ext n s y → Exact opens choice ext n s (if b then (if sees h (rest_of s) then x else y) else y)
   two_chosen [] true x y sees-is left right = absurd (both_ways sees-is refl)
   two_chosen (t ∷ s) true x y sees-is left right = second_chosen t s (sees h s) x y sees-is refl left right
-  two_chosen s false x y sees-is left right = exact_right p q ext n s (λ m w a k u apart same. both_ways (starts-sees w k (starts_p.first m w a u)) (sees-peek g (w ++ k) s same ∙ sees-is)) y right
+  two_chosen s false x y sees-is left right = exact_right opens p q ext n s (λ m w a k u apart same. both_ways (starts-sees w k (starts_p.first m w a u)) (sees-peek g (w ++ k) s same ∙ sees-is)) y right
 
 -- Both parts begin with any token of g; the second token of the one passes h, and that of the other doesn't.
-pub rule_two : {T A : Type 0} {p q : Langs T A} {P Q : Parser T A} {ext : T → Bool} {n : ℕ} (g h : T → Bool) → Starts g p → Starts g q → Seconds h true p ext → Seconds h false q ext → ((t : T) → g t ≡ true → Begins p n (t ∷ [])) → ((t : T) → g t ≡ true → Begins q n (t ∷ [])) → IsRule p P ext n → IsRule q Q ext n → IsRule (λ m. p m or q m) (when_two g h P Q) ext n
-rule_two {p = p} {q = q} {P = P} {Q = Q} {ext = ext} {n = n} g h starts_p starts_q second_p second_q opens_p opens_q x y = record {
-  grows = grows_choice p q ext n x.grows y.grows;
-  has = λ m le. has_right p q ext n m (y.has m le);
-  exact = λ s. two_chosen p q ext g h n starts_p starts_q second_p second_q opens_p opens_q s (sees g s) (P s) (Q s) refl (x.exact s) (y.exact s);
+pub rule_two : {T A : Type 0} {opens : T → Bool} {p q : Langs T A} {P Q : Parser T A} {ext : T → Bool} {n : ℕ} (g h : T → Bool) → Starts g p → Starts g q → Seconds h true p ext → Seconds h false q ext → ((t : T) → g t ≡ true → Begins p n (t ∷ [])) → ((t : T) → g t ≡ true → Begins q n (t ∷ [])) → IsRule opens p P ext n → IsRule opens q Q ext n → IsRule opens (λ m. p m or q m) (when_two g h P Q) ext n
+rule_two {opens = opens} {p = p} {q = q} {P = P} {Q = Q} {ext = ext} {n = n} g h starts_p starts_q second_p second_q heads_p heads_q x y = record {
+  grows = grows_choice opens p q ext n x.grows y.grows;
+  has = λ m le. has_right opens p q ext n m (y.has m le);
+  exact = λ s. two_chosen opens p q ext g h n starts_p starts_q second_p second_q heads_p heads_q s (sees g s) (P s) (Q s) refl (x.exact s) (y.exact s);
 }

@@ -14,8 +14,8 @@ pub record Shrinks {T A : Type 0} (P : Parser T A) : Type 0 where
   pub less : (s : List T) (a : A) (u : List T) → P s ≡ Ok (a, u) → length u < length s
 
 -- The parser of a language without the empty text takes a token.
-pub shrinks : {T A : Type 0} {L : Langs T A} {P : Parser T A} {f ext : T → Bool} {n : ℕ} → Starts f L → IsRule L P ext n → Shrinks P
-shrinks {L = L} {ext = ext} {n = n} starts x = record { less = λ s a u e. took_less starts (subst (λ o. Exact L ext n s o) e (x.exact s)) }
+pub shrinks : {T A : Type 0} {opens : T → Bool} {L : Langs T A} {P : Parser T A} {f ext : T → Bool} {n : ℕ} → Starts f L → IsRule opens L P ext n → Shrinks P
+shrinks {opens = opens} {L = L} {ext = ext} {n = n} starts x = record { less = λ s a u e. took_less starts (subst (λ o. Exact opens L ext n s o) e (x.exact s)) }
 
 same_turns : {T A : Type 0} (b : Bool) (s : List T) (o : Outcome T A) (F G : A → Parser T (List A)) → ((a : A) (u : List T) → o ≡ Ok (a, u) → F a u ≡ G a u) → (if b then and_then o F else Ok ([], s)) ≡ (if b then and_then o G else Ok ([], s))
 same_turns true s (Ok x) F G same = same x.0 x.1 refl

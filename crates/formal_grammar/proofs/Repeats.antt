@@ -32,13 +32,13 @@ module _ {T A : Type 0} (p : Langs T A) where
   grows_many grows m k w [] le t = t
   grows_many grows m k w (a ∷ later) le t = (t.0, t.1, grows m k t.0 a le t.2, grows_many grows m k t.1 later le t.3, t.4)
 
-  module _ (f e1 ext : T → Bool) (n : ℕ) (starts : Starts f p) (apart : Apart f e1) (f-within : Within f ext) (e1-within : Within e1 ext) where
+  module _ (opens f e1 ext : T → Bool) (n : ℕ) (starts : Starts f p) (apart : Apart f e1) (f-within : Within f ext) (e1-within : Within e1 ext) where
     -- where a text of many stands and a token of f first, there is a first part
     many_to_some : (s : List T) → sees f s ≡ true → (m : ℕ) (w : List T) (b : List A) (k : List T) → many (p m) w b → sees ext k ≡ false → peek (w ++ k) ≡ peek s → some m w b
-    many_to_some s opens m w [] k t follows same =
+    many_to_some s here_one m w [] k t follows same =
         let here : sees f (w ++ k) ≡ false = ap (λ z. sees f (z ++ k)) t ∙ sees-within f-within k follows in
-        absurd (both_ways opens (sym (sees-peek f (w ++ k) s same) ∙ here))
-    many_to_some s opens m w (a ∷ later) k t follows same = record {
+        absurd (both_ways here_one (sym (sees-peek f (w ++ k) s same) ∙ here))
+    many_to_some s here_one m w (a ∷ later) k t follows same = record {
       front = t.0;
       back = t.1;
       value = a;
@@ -47,7 +47,7 @@ module _ {T A : Type 0} (p : Langs T A) where
       whole = t.4;
     }
 
-    exact_done : (s : List T) → sees f s ≡ false → Exact (λ m. many (p m)) ext n s (Ok ([], s))
+    exact_done : (s : List T) → sees f s ≡ false → Exact opens (λ m. many (p m)) ext n s (Ok ([], s))
     exact_done s closed = record { text = []; whole = refl; spells = refl; only = only }
       where
         only : (m : ℕ) (w : List T) (b : List A) (k other : List T) → many (p m) w b → sees ext k ≡ false → peek other ≡ peek s → w ++ k ≡ other → (w ≡ []) × (b ≡ [])
@@ -56,47 +56,47 @@ module _ {T A : Type 0} (p : Langs T A) where
             let x = starts_first w t.0 t.1 t.4 (starts.first m t.0 a t.2) in
             absurd (both_ways (starts-sees w k x) (sees-peek f (w ++ k) s (ap peek e ∙ same) ∙ closed))
 
-    module _ (P : Parser T A) (x : IsRule p P e1 n) where
+    module _ (P : Parser T A) (x : IsRule opens p P e1 n) where
       abbrev later_parts : A → ℕ → Parser T (List A)
       later_parts a k u = and_then (turns f P k u) (λ later. pure (a ∷ later))
 
-      exact_later : (a : A) (k : ℕ) (u : List T) → Exact (λ m. many (p m)) ext n u (turns f P k u) → Exact (λ m. many (p m) >>= λ later. gives (a ∷ later)) ext n u (later_parts a k u)
+      exact_later : (a : A) (k : ℕ) (u : List T) → Exact opens (λ m. many (p m)) ext n u (turns f P k u) → Exact opens (λ m. many (p m) >>= λ later. gives (a ∷ later)) ext n u (later_parts a k u)
       exact_later a k u exact =
-          exact_then (λ m. many (p m)) (λ later m. gives (a ∷ later)) ext ext n (λ later. joins_gives ext (a ∷ later) ext (λ t h. h)) u (λ later. pure (a ∷ later)) (turns f P k u) (grows_many x.grows) (λ later. (rule_gives (a ∷ later) ext n).has) exact (λ later v _. (rule_gives (a ∷ later) ext n).exact v)
+          exact_then opens (λ m. many (p m)) (λ later m. gives (a ∷ later)) ext ext n (λ later. joins_gives ext (a ∷ later) ext (λ t h. h)) u (λ later. pure (a ∷ later)) (turns f P k u) (grows_many x.grows) (λ later. (rule_gives {opens = opens} (a ∷ later) ext n).has) exact (λ later v _. (rule_gives {opens = opens} (a ∷ later) ext n).exact v)
 
-      exact_one : (k : ℕ) (s : List T) → length s ≤ suc k → sees f s ≡ true → ((u : List T) → length u ≤ k → Exact (λ m. many (p m)) ext n u (turns f P k u)) → Exact (λ m. many (p m)) ext n s (and_then (P s) (λ a u. later_parts a k u))
-      exact_one k s short opens rest_exact =
-          exact_part some (λ m. many (p m)) ext ext n (λ t h. h) some_to_many s (many_to_some s opens) (and_then (P s) (λ a u. later_parts a k u))
-          (exact_then p (λ a m. many (p m) >>= λ later. gives (a ∷ later)) e1 ext n
+      exact_one : (k : ℕ) (s : List T) → length s ≤ suc k → sees f s ≡ true → ((u : List T) → length u ≤ k → Exact opens (λ m. many (p m)) ext n u (turns f P k u)) → Exact opens (λ m. many (p m)) ext n s (and_then (P s) (λ a u. later_parts a k u))
+      exact_one k s short here_one rest_exact =
+          exact_part opens some (λ m. many (p m)) ext ext n (λ t h. h) some_to_many s (many_to_some s here_one) (and_then (P s) (λ a u. later_parts a k u))
+          (exact_then opens p (λ a m. many (p m) >>= λ later. gives (a ∷ later)) e1 ext n
           (λ a. joins_then (joins_many apart starts e1-within) (λ later. joins_gives ext (a ∷ later) ext (λ t h. h)))
           s (λ a u. later_parts a k u) (P s) x.grows
           (λ a m le. record { text = []; value = a ∷ []; spells = record { front = []; back = []; value = []; first = refl; second = (refl, refl); whole = refl } })
           (x.exact s)
           (λ a u e.
-          let took : Took p e1 n s a u = subst (λ (o : Outcome T A). Exact p e1 n s o) e (x.exact s) in
+          let took : Took p e1 n s a u = subst (λ (o : Outcome T A). Exact opens p e1 n s o) e (x.exact s) in
           let less : length u < length s = took_less starts took in
           exact_later a k u (rest_exact u (omega arith))))
 
-      chosen : (k : ℕ) (s : List T) (b : Bool) → sees f s ≡ b → length s ≤ suc k → ((u : List T) → length u ≤ k → Exact (λ m. many (p m)) ext n u (turns f P k u)) → Exact (λ m. many (p m)) ext n s (if b then and_then (P s) (λ a u. later_parts a k u) else Ok ([], s))
+      chosen : (k : ℕ) (s : List T) (b : Bool) → sees f s ≡ b → length s ≤ suc k → ((u : List T) → length u ≤ k → Exact opens (λ m. many (p m)) ext n u (turns f P k u)) → Exact opens (λ m. many (p m)) ext n s (if b then and_then (P s) (λ a u. later_parts a k u) else Ok ([], s))
       chosen k s true sees-is short rest_exact = exact_one k s short sees-is rest_exact
       chosen k s false sees-is short rest_exact = exact_done s sees-is
 
-      exact_turns : (k : ℕ) (s : List T) → length s ≤ k → Exact (λ m. many (p m)) ext n s (turns f P k s)
+      exact_turns : (k : ℕ) (s : List T) → length s ≤ k → Exact opens (λ m. many (p m)) ext n s (turns f P k s)
       exact_turns zero [] short = exact_done [] refl
       exact_turns zero (t ∷ s) short = absurd (omega arith)
       exact_turns (suc k) s short = chosen k s (sees f s) refl short (λ u le. exact_turns k u le)
 
 -- Any number of parts, each of which begins with a token of f.
-pub rule_many : {T A : Type 0} {p : Langs T A} {P : Parser T A} {e1 : T → Bool} {n : ℕ} (f ext : T → Bool) → Starts f p → Apart f e1 → Within f ext → Within e1 ext → IsRule p P e1 n → IsRule (λ m. many (p m)) (repeat f P) ext n
-rule_many {p = p} {P = P} {e1 = e1} {n = n} f ext starts apart f-within e1-within x = record {
+pub rule_many : {T A : Type 0} {opens : T → Bool} {p : Langs T A} {P : Parser T A} {e1 : T → Bool} {n : ℕ} (f ext : T → Bool) → Starts f p → Apart f e1 → Within f ext → Within e1 ext → IsRule opens p P e1 n → IsRule opens (λ m. many (p m)) (repeat f P) ext n
+rule_many {opens = opens} {p = p} {P = P} {e1 = e1} {n = n} f ext starts apart f-within e1-within x = record {
   grows = grows_many p x.grows;
   has = λ m le. record { text = []; value = []; spells = refl };
-  exact = λ s. exact_turns p f e1 ext n starts apart f-within e1-within P x (length s) s (le_refl (length s));
+  exact = λ s. exact_turns p opens f e1 ext n starts apart f-within e1-within P x (length s) s (le_refl (length s));
 }
 
 -- One part or more, with the token t between them, the only one that passes the test.
-pub rule_listed : {T A : Type 0} {p : Langs T A} {P : Parser T A} {e1 : T → Bool} {n : ℕ} (is : T → Bool) (t : T) (ext : T → Bool) → is t ≡ true → ((u : T) → is u ≡ true → u ≡ t) → e1 t ≡ false → Within is ext → Within e1 ext → IsRule p P e1 n → IsRule (λ m. listed t (p m)) (separated is P) ext n
-rule_listed {p = p} {P = P} {e1 = e1} {n = n} is t ext passes only apart is-within e1-within x =
+pub rule_listed : {T A : Type 0} {opens : T → Bool} {p : Langs T A} {P : Parser T A} {e1 : T → Bool} {n : ℕ} (is : T → Bool) (t : T) (ext : T → Bool) → is t ≡ true → ((u : T) → is u ≡ true → u ≡ t) → e1 t ≡ false → Within is ext → Within e1 ext → IsRule opens p P e1 n → IsRule opens (λ m. listed t (p m)) (separated is P) ext n
+rule_listed {opens = opens} {p = p} {P = P} {e1 = e1} {n = n} is t ext passes only apart is-within e1-within x =
     let item = rule_seq {q = λ _. p} (rule_the is t passes only n) (λ _. x) in
     let item_starts : Starts is (λ m. the t >> p m) = starts_then {q = λ _. p} (starts_the passes) in
     let is-apart : Apart is e1 = λ u h. ap e1 (only u h) ∙ apart in

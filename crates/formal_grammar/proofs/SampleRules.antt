@@ -11,7 +11,7 @@ use Rattle.formal_grammar.specs.declared.sample.Expr.TheVariants as expr
 use Rattle.formal_grammar.specs.Lang.{Lang, ◌>>=◌, ◌>>◌, ◌or◌, gives, the}
 use Rattle.formal_grammar.specs.Parse.{Parser, and_then, pure, accept, this}
 use Rattle.formal_grammar.specs.Exact.{Langs, none, either, Grows, Begins, IsRule, Starts, Joins, nested}
-use Rattle.formal_grammar.specs.SampleGrammar.{number_of, number, mark, sum_of, bracketed, item, sum}
+use Rattle.formal_grammar.specs.SampleGrammar.{number_of, number, mark, sum_of, bracketed, item, opens, sum}
 use Rattle.formal_grammar.specs.SampleReading as read
 use Rattle.formal_grammar.specs.SampleReading.{is}
 use Rattle.formal_grammar.proofs.Sets.{within_same, within_none, within_left, within_right, apart_one}
@@ -36,7 +36,7 @@ only : (sign : Sign) (t : Token) → is sign t ≡ true → t ≡ token.Sign sig
 only sign (token.Number n) e = absurd cc
 only sign (token.Sign s) e = ap (λ z. token.Sign z) (same_true the_type tt s sign e)
 
-the_rule : (sign : Sign) (n : ℕ) → IsRule (λ m. the (token.Sign sign)) (accept (this (is sign))) none n
+the_rule : (sign : Sign) (n : ℕ) → IsRule opens (λ m. the (token.Sign sign)) (accept (this (is sign))) none n
 the_rule sign n = rule_the (is sign) (token.Sign sign) (passes sign) (only sign) n
 
 -- ---- lines
@@ -45,11 +45,11 @@ the_rule sign n = rule_the (is sign) (token.Sign sign) (passes sign) (only sign)
 abbrev goes_on : Token → Bool
 goes_on = either (is Plus) (is Bang)
 
-number_rule : (n : ℕ) → IsRule (λ m. number) read.number none n
+number_rule : (n : ℕ) → IsRule opens (λ m. number) read.number none n
 unfolding read.number
 number_rule n = rule_seq (rule_shown number_of (token.Number 0) 0 refl n) (λ a. rule_gives (expr.Number a) none n)
 
-mark_rule : (n : ℕ) → IsRule (λ m. mark) read.mark goes_on n
+mark_rule : (n : ℕ) → IsRule opens (λ m. mark) read.mark goes_on n
 unfolding read.mark
 mark_rule n =
     rule_then {q = λ o m. gives (is_some o)} (λ o. joins_gives goes_on (is_some o) goes_on (within_same goes_on))
@@ -60,7 +60,7 @@ mark_rule n =
 joins_mark : Joins (is Plus) (λ m. mark) goes_on
 joins_mark = joins_skip {p = λ m. the (token.Sign Bang)} {q = λ o m. gives (is_some o)} (apart_one (is Plus) (only Bang) refl) (starts_the (passes Bang)) (λ o. joins_gives (is Plus) (is_some o) goes_on (within_left (is Plus) (is Bang)))
 
-sum_rule : {L : Langs Token Expr} {P : Parser Token Expr} {n : ℕ} → IsRule L P none n → IsRule (λ m. sum_of (L m)) (read.sum P) goes_on n
+sum_rule : {L : Langs Token Expr} {P : Parser Token Expr} {n : ℕ} → IsRule opens L P none n → IsRule opens (λ m. sum_of (L m)) (read.sum P) goes_on n
 unfolding read.sum
 sum_rule {n = n} x =
     rule_then {q = λ items m. mark >>= λ marked. gives (expr.Sum items marked)}
@@ -72,14 +72,14 @@ sum_rule {n = n} x =
 abbrev inside : Lang Token Expr → Lang Token Expr
 inside p = p >>= λ e. the (token.Sign Close) >> gives e
 
-inside_rule : {L : Langs Token Expr} {P : Parser Token Expr} {n : ℕ} → IsRule L P goes_on n → IsRule (λ m. inside (L m)) (λ s. and_then (P s) (λ e u. and_then (accept (this (is Close)) u) (λ _. pure e))) none n
+inside_rule : {L : Langs Token Expr} {P : Parser Token Expr} {n : ℕ} → IsRule opens L P goes_on n → IsRule opens (λ m. inside (L m)) (λ s. and_then (P s) (λ e u. and_then (accept (this (is Close)) u) (λ _. pure e))) none n
 inside_rule {n = n} x =
     rule_then {q = λ e m. the (token.Sign Close) >> gives e}
     (λ e. joins_then {between = none} (joins_the refl) (λ _. joins_none))
     x
     (λ e. rule_seq (the_rule Close n) (λ _. rule_gives e none n))
 
-bracketed_rule : {L : Langs Token Expr} {P : Parser Token Expr} {n : ℕ} → IsRule L P goes_on n → IsRule (λ m. bracketed (L m)) (read.bracketed P) none n
+bracketed_rule : {L : Langs Token Expr} {P : Parser Token Expr} {n : ℕ} → IsRule opens L P goes_on n → IsRule opens (λ m. bracketed (L m)) (read.bracketed P) none n
 unfolding read.bracketed
 bracketed_rule {n = n} x = rule_seq {q = λ _ m. _} (the_rule Open n) (λ _. inside_rule x)
 
@@ -145,13 +145,13 @@ bracket_opens t e =
     let b = begins_the (token.Sign Open) {L = λ m. inside (sum_of number)} {m = 0} h in
     record { more = b.more; value = b.value; text = rw (only Open t e) b.text }
 
-item_rule : (n : ℕ) → IsRule item (read.item n) none n
+item_rule : (n : ℕ) → IsRule opens item (read.item n) none n
 unfolding read.item
-item_rule zero = rule_same item to_item from_item (rule_floor opened (is Open) opened_grows (λ w e t. t) bracket_opens starts_opened joins_number (number_rule 0))
+item_rule zero = rule_same item to_item from_item (rule_floor opened (is Open) (λ t e. ap opens (only Open t e)) opened_grows (λ w e t. t) bracket_opens starts_opened joins_number (number_rule 0))
 item_rule (suc n) = rule_same item to_item from_item (rule_when (is Open) starts_opened joins_number (rule_nested (bracketed_rule (sum_rule (item_rule n)))) (number_rule (suc n)))
 
 -- The parser of sums is exact, whatever the depth.
-pub exact_sum : (n : ℕ) → IsRule (λ m. sum m) (read.sum (read.item n)) goes_on n
+pub exact_sum : (n : ℕ) → IsRule opens (λ m. sum m) (read.sum (read.item n)) goes_on n
 exact_sum n = sum_rule (item_rule n)
 
 -- An item behind a plus takes a token.

@@ -7,7 +7,7 @@ use Rattle.formal_grammar.specs.Parse.{Outcome, Parser, and_then, peek, sees}
 use Rattle.formal_grammar.specs.Exact.{Langs, Grows, Has, Never, Begins, Took, Deeper, Stopped, Exact, IsRule, Joins, none}
 use Rattle.formal_grammar.proofs.Contexts.{peek-append, sees-none, bad_as}
 
-module _ {T A B : Type 0} (p : Langs T A) (q : A → Langs T B) (e1 e2 : T → Bool) (n : ℕ) (joins : (a : A) → Joins e1 (q a) e2) where
+module _ {T A B : Type 0} (opens : T → Bool) (p : Langs T A) (q : A → Langs T B) (e1 e2 : T → Bool) (n : ℕ) (joins : (a : A) → Joins e1 (q a) e2) where
   abbrev both : Langs T B
   both m = p m >>= λ a. q a m
 
@@ -67,7 +67,7 @@ module _ {T A B : Type 0} (p : Langs T A) (q : A → Langs T B) (e1 e2 : T → B
       }
 
   -- the second part was refused
-  stopped_second : (s u : List T) (a : A) (e : Why × ℕ) → Grows p → Took p e1 n s a u → Stopped (q a) e2 n u e.0 e.1 → Stopped both e2 n s e.0 e.1
+  stopped_second : (s u : List T) (a : A) (e : Why × ℕ) → Grows p → Took p e1 n s a u → Stopped opens (q a) e2 n u e.0 e.1 → Stopped opens both e2 n s e.0 e.1
   stopped_second s u a e grows x y = record {
     text = x.text ++ y.text;
     rest = y.rest;
@@ -82,18 +82,19 @@ module _ {T A B : Type 0} (p : Langs T A) (q : A → Langs T B) (e1 e2 : T → B
           let h = behind s u a x y.text y.rest y.whole m w c k other t apart same eq in
           none h.back c k other h.second apart same h.context
 
-      deeper : Deeper (q a) n y.text y.rest → Deeper both n (x.text ++ y.text) y.rest
+      deeper : Deeper opens (q a) n y.text y.rest → Deeper opens both n (x.text ++ y.text) y.rest
       deeper d = record {
         depth = d.depth;
         head = d.head;
         tail = d.tail;
         cons = d.cons;
+        opening = d.opening;
         more = d.more;
         begins = subst (λ (z : List T). Begins both d.depth z) (sym (append_assoc x.text y.text (d.head ∷ []))) (begins_both d.depth x.text (y.text ++ (d.head ∷ [])) a (grows n d.depth x.text a d.more x.spells) d.begins);
       }
 
   -- the first part was refused
-  stopped_first : (s : List T) (e : Why × ℕ) → ((a : A) (m : ℕ) → n ≤ m → Has (q a) m) → n ≤ n → Stopped p e1 n s e.0 e.1 → Stopped both e2 n s e.0 e.1
+  stopped_first : (s : List T) (e : Why × ℕ) → ((a : A) (m : ℕ) → n ≤ m → Has (q a) m) → n ≤ n → Stopped opens p e1 n s e.0 e.1 → Stopped opens both e2 n s e.0 e.1
   stopped_first s e has self x = record {
     text = x.text;
     rest = x.rest;
@@ -106,22 +107,23 @@ module _ {T A B : Type 0} (p : Langs T A) (q : A → Langs T B) (e1 e2 : T → B
       never : (m : ℕ) → Never p e1 m x.text x.rest → Never both e2 m x.text x.rest
       never m none w c k other t apart same eq = none t.front t.value (t.back ++ k) other t.first (first_context m w c k t apart) same (first_whole m w c k (x.text ++ other) t eq)
 
-      deeper : Deeper p n x.text x.rest → Deeper both n x.text x.rest
+      deeper : Deeper opens p n x.text x.rest → Deeper opens both n x.text x.rest
       deeper d = record {
         depth = d.depth;
         head = d.head;
         tail = d.tail;
         cons = d.cons;
+        opening = d.opening;
         more = d.more;
         begins = begins_first d.depth (x.text ++ (d.head ∷ [])) (λ a. has a d.depth d.more) d.begins;
       }
 
-  exact_second : (s u : List T) (a : A) (out : Outcome T B) → Grows p → Took p e1 n s a u → Exact (q a) e2 n u out → Exact both e2 n s out
+  exact_second : (s u : List T) (a : A) (out : Outcome T B) → Grows p → Took p e1 n s a u → Exact opens (q a) e2 n u out → Exact opens both e2 n s out
   exact_second s u a (Ok y) grows x exact = took_both s u y.1 a y.0 x exact
   exact_second s u a (Err e) grows x exact = stopped_second s u a e grows x exact
 
   -- The second parser has to be exact only where the first one stopped reading.
-  pub exact_then : (s : List T) (Q : A → Parser T B) (out : Outcome T A) → Grows p → ((a : A) (m : ℕ) → n ≤ m → Has (q a) m) → Exact p e1 n s out → ((a : A) (u : List T) → out ≡ Ok (a, u) → Exact (q a) e2 n u (Q a u)) → Exact both e2 n s (and_then out Q)
+  pub exact_then : (s : List T) (Q : A → Parser T B) (out : Outcome T A) → Grows p → ((a : A) (m : ℕ) → n ≤ m → Has (q a) m) → Exact opens p e1 n s out → ((a : A) (u : List T) → out ≡ Ok (a, u) → Exact opens (q a) e2 n u (Q a u)) → Exact opens both e2 n s (and_then out Q)
   exact_then s Q (Ok x) grows has exact next = exact_second s x.1 x.0 (Q x.0 x.1) grows exact (next x.0 x.1 refl)
   exact_then s Q (Err e) grows has exact next = stopped_first s e has (le_refl n) exact
 
@@ -145,13 +147,13 @@ module _ {T A B : Type 0} (p : Langs T A) (q : A → Langs T B) (e1 e2 : T → B
       }
 
 -- One part and then another: where the second stands, with what follows, no token stands that would go on with the first.
-pub rule_then : {T A B : Type 0} {p : Langs T A} {q : A → Langs T B} {P : Parser T A} {Q : A → Parser T B} {e1 e2 : T → Bool} {n : ℕ} → ((a : A) → Joins e1 (q a) e2) → IsRule p P e1 n → ((a : A) → IsRule (q a) (Q a) e2 n) → IsRule (λ m. p m >>= λ a. q a m) (λ s. and_then (P s) Q) e2 n
-rule_then {p = p} {q = q} {P = P} {Q = Q} {e1 = e1} {e2 = e2} {n = n} joins x y = record {
-  grows = grows_both p q e1 e2 n joins x.grows (λ a. (y a).grows);
-  has = λ m le. has_both p q e1 e2 n joins m (x.has m le) (λ a. (y a).has m le);
-  exact = λ s. exact_then p q e1 e2 n joins s Q (P s) x.grows (λ a. (y a).has) (x.exact s) (λ a u _. (y a).exact u);
+pub rule_then : {T A B : Type 0} {opens : T → Bool} {p : Langs T A} {q : A → Langs T B} {P : Parser T A} {Q : A → Parser T B} {e1 e2 : T → Bool} {n : ℕ} → ((a : A) → Joins e1 (q a) e2) → IsRule opens p P e1 n → ((a : A) → IsRule opens (q a) (Q a) e2 n) → IsRule opens (λ m. p m >>= λ a. q a m) (λ s. and_then (P s) Q) e2 n
+rule_then {opens = opens} {p = p} {q = q} {P = P} {Q = Q} {e1 = e1} {e2 = e2} {n = n} joins x y = record {
+  grows = grows_both opens p q e1 e2 n joins x.grows (λ a. (y a).grows);
+  has = λ m le. has_both opens p q e1 e2 n joins m (x.has m le) (λ a. (y a).has m le);
+  exact = λ s. exact_then opens p q e1 e2 n joins s Q (P s) x.grows (λ a. (y a).has) (x.exact s) (λ a u _. (y a).exact u);
 }
 
 -- The same where nothing goes on with the first part.
-pub rule_seq : {T A B : Type 0} {p : Langs T A} {q : A → Langs T B} {P : Parser T A} {Q : A → Parser T B} {e2 : T → Bool} {n : ℕ} → IsRule p P none n → ((a : A) → IsRule (q a) (Q a) e2 n) → IsRule (λ m. p m >>= λ a. q a m) (λ s. and_then (P s) Q) e2 n
+pub rule_seq : {T A B : Type 0} {opens : T → Bool} {p : Langs T A} {q : A → Langs T B} {P : Parser T A} {Q : A → Parser T B} {e2 : T → Bool} {n : ℕ} → IsRule opens p P none n → ((a : A) → IsRule opens (q a) (Q a) e2 n) → IsRule opens (λ m. p m >>= λ a. q a m) (λ s. and_then (P s) Q) e2 n
 rule_seq x y = rule_then (λ a. record { clear = λ m w b k t apart. sees-none (w ++ k) }) x y

@@ -7,14 +7,14 @@ use Rattle.formal_grammar.proofs.Contexts.{peek_first, some_is, not_none}
 use Rattle.formal_grammar.proofs.Widening.{rule_same}
 
 -- The empty text.
-pub rule_gives : {T A : Type 0} (a : A) (ext : T → Bool) (n : ℕ) → IsRule (λ m. gives a) (pure a) ext n
+pub rule_gives : {T A : Type 0} {opens : T → Bool} (a : A) (ext : T → Bool) (n : ℕ) → IsRule opens (λ m. gives a) (pure a) ext n
 rule_gives a ext n = record {
   grows = λ m k w b le t. t;
   has = λ m le. record { text = []; value = a; spells = (refl, refl) };
   exact = λ s. record { text = []; whole = refl; spells = (refl, refl); only = λ m w b k other t apart same e. t };
 }
 
-module _ {T A : Type 0} (view : T → Option A) (t0 : T) (a0 : A) (shows : view t0 ≡ Some a0) (n : ℕ) where
+module _ {T A : Type 0} (opens : T → Bool) (view : T → Option A) (t0 : T) (a0 : A) (shows : view t0 ≡ Some a0) (n : ℕ) where
   one : Langs T A
   one m = shown view
 
@@ -22,7 +22,7 @@ module _ {T A : Type 0} (view : T → Option A) (t0 : T) (a0 : A) (shows : view 
   unfolding one
   begins_none = record { more = t0 ∷ []; value = a0; text = (t0, refl, shows) }
 
-  accepted_exact : (t : T) (s : List T) (o : Option A) → view t ≡ o → Exact one none n (t ∷ s) (accepted o s (t ∷ s))
+  accepted_exact : (t : T) (s : List T) (o : Option A) → view t ≡ o → Exact opens one none n (t ∷ s) (accepted o s (t ∷ s))
   unfolding one
   accepted_exact t s (Some a) e = record {
     text = t ∷ [];
@@ -43,7 +43,7 @@ module _ {T A : Type 0} (view : T → Option A) (t0 : T) (a0 : A) (shows : view 
         not_none (sym u.2 ∙ ap view same_token ∙ e);
   }
 
-  accept_exact : (s : List T) → Exact one none n s (accept view s)
+  accept_exact : (s : List T) → Exact opens one none n s (accept view s)
   unfolding one
   accept_exact [] = record {
     text = [];
@@ -55,21 +55,21 @@ module _ {T A : Type 0} (view : T → Option A) (t0 : T) (a0 : A) (shows : view 
   }
   accept_exact (t ∷ s) = accepted_exact t s (view t) refl
 
-  -- One token that shows a value; t0 is one that does.
-  pub rule_shown : IsRule (λ m. shown view) (accept view) none n
-  unfolding one
-  rule_shown = record {
-    grows = λ m k w b le t. t;
-    has = λ m le. record { text = t0 ∷ []; value = a0; spells = (t0, refl, shows) };
-    exact = accept_exact;
-  }
+-- One token that shows a value; t0 is one that does.
+pub rule_shown : {T A : Type 0} {opens : T → Bool} (view : T → Option A) (t0 : T) (a0 : A) → view t0 ≡ Some a0 → (n : ℕ) → IsRule opens (λ m. shown view) (accept view) none n
+unfolding one
+rule_shown {opens = opens} view t0 a0 shows n = record {
+  grows = λ m k w b le t. t;
+  has = λ m le. record { text = t0 ∷ []; value = a0; spells = (t0, refl, shows) };
+  exact = accept_exact opens view t0 a0 shows n;
+}
 
 passed : {T : Type 0} (is : T → Bool) (t : T) (b : Bool) (a : Unit {0}) → is t ≡ b → this is t ≡ Some a → is t ≡ true
 passed is t true a e shows = e
 passed is t false a e shows = absurd (not_none (sym shows ∙ rw e refl))
 
 -- This token, the only one that passes the test.
-pub rule_the : {T : Type 0} (is : T → Bool) (t0 : T) → is t0 ≡ true → ((t : T) → is t ≡ true → t ≡ t0) → (n : ℕ) → IsRule (λ m. the t0) (accept (this is)) none n
+pub rule_the : {T : Type 0} {opens : T → Bool} (is : T → Bool) (t0 : T) → is t0 ≡ true → ((t : T) → is t ≡ true → t ≡ t0) → (n : ℕ) → IsRule opens (λ m. the t0) (accept (this is)) none n
 rule_the {T = T} is t0 passes only n =
     rule_same (λ m. the t0)
     (λ m w a u. u.1 ∙ ap (λ (z : T). z ∷ []) (only u.0 (passed is u.0 (is u.0) a refl u.2)))

@@ -1,5 +1,5 @@
 -- What a rule says of the whole of the tokens.
-use Rattle.std.proofs.Common.{◌≡◌, ℕ, suc, ◌+◌, ◌-◌, ◌≤◌, Bool, List, [], ◌∷◌, ◌++◌, length, take, Some, Result, Ok, Err, refl, sym, ap, subst, ◌∙◌, append-nil, append_assoc, arith, length-append}
+use Rattle.std.proofs.Common.{◌≡◌, ℕ, suc, ◌+◌, ◌-◌, ◌≤◌, Bool, List, [], ◌∷◌, ◌++◌, length, take, slice_get, Some, Result, Ok, Err, refl, sym, ap, subst, ◌∙◌, append-nil, append_assoc, arith, length-append}
 use Rattle.std.proofs.lemmas.List.{take_at, append_cancel_left}
 use Rattle.formal_grammar.specs.declared.stop.Why.{Why}
 use Rattle.formal_grammar.specs.declared.stop.Why.TheVariants.{Syntax, Deep}
@@ -31,7 +31,11 @@ shares (x ∷ text) rest (y ∷ w) e =
     let r = shares text rest w h.1 in
     record { other = r.other; whole = ap (λ z. z ∷ w) h.0 ∙ ap (λ z. x ∷ z) r.whole; same = r.same }
 
-module _ {T A : Type 0} (L : Langs T A) (ext : T → Bool) (n : ℕ) where
+get_behind : {T : Type 0} (text : List T) (t : T) (tail : List T) → slice_get (text ++ t ∷ tail) (length text) ≡ Some t
+get_behind [] t tail = refl
+get_behind (x ∷ text) t tail = get_behind text t tail
+
+module _ {T A : Type 0} (opens : T → Bool) (L : Langs T A) (ext : T → Bool) (n : ℕ) where
   -- a beginning agrees with all that goes on from it
   agrees_begun : (m : ℕ) (text rest s : List T) → s ≡ text ++ rest → Begins L m text → Agrees L m (length text) s
   agrees_begun m text rest s whole b = record {
@@ -69,7 +73,7 @@ module _ {T A : Type 0} (L : Langs T A) (ext : T → Bool) (n : ℕ) where
       let nothing : h.other ≡ [] = append_cancel_left x.text h.other [] (sym h.whole ∙ one.0 ∙ sym (append-nil x.text)) in
       not_none (sym h.same ∙ ap peek nothing)
 
-  judged_more : (s : List T) (a : A) (t : T) (rest : List T) → Took L ext n s a (t ∷ rest) → Judges L n s (Err (Syntax, length (t ∷ rest)))
+  judged_more : (s : List T) (a : A) (t : T) (rest : List T) → Took L ext n s a (t ∷ rest) → Judges opens L n s (Err (Syntax, length (t ∷ rest)))
   judged_more s a t rest x =
       let len = length_whole x.text (t ∷ rest) s x.whole in
       let at : length x.text ≡ length s - length (t ∷ rest) = omega (arith, len) in
@@ -80,7 +84,7 @@ module _ {T A : Type 0} (L : Langs T A) (ext : T → Bool) (n : ℕ) where
       } in
       (subst (λ (k : ℕ). IsSyntaxFault L n s k) at fault, omega (arith, len))
 
-  judged_stop : (s : List T) (e : Why × ℕ) → Stopped L ext n s e.0 e.1 → Judges L n s (Err e)
+  judged_stop : (s : List T) (e : Why × ℕ) → Stopped opens L ext n s e.0 e.1 → Judges opens L n s (Err e)
   judged_stop s (Syntax, left) x =
       let len = length_whole x.text x.rest s x.whole in
       let at : length x.text ≡ length s - left = omega (arith, len, x.at) in
@@ -97,71 +101,74 @@ module _ {T A : Type 0} (L : Langs T A) (ext : T → Bool) (n : ℕ) where
       let some : length x.rest ≡ suc (length d.tail) = ap length d.cons in
       let past : length (x.text ++ (d.head ∷ [])) ≡ suc (length x.text) = omega (arith, length-append x.text (d.head ∷ [])) in
       let whole : s ≡ (x.text ++ (d.head ∷ [])) ++ d.tail = x.whole ∙ ap (λ (z : List T). x.text ++ z) d.cons ∙ sym (append_assoc x.text (d.head ∷ []) d.tail) in
-      let fault : IsDeepFault L n s (length x.text) = record {
+      let fault : IsDeepFault opens L n s (length x.text) = record {
         within = omega (arith, len, some);
+        token = d.head;
+        there = ap (λ (z : List T). slice_get z (length x.text)) (x.whole ∙ ap (λ (z : List T). x.text ++ z) d.cons) ∙ get_behind x.text d.head d.tail;
+        opening = d.opening;
         before = agrees_begun n x.text x.rest s x.whole x.begins;
         depth = d.depth;
         deeper = subst (λ (k : ℕ). Agrees L d.depth k s) past (agrees_begun d.depth (x.text ++ (d.head ∷ [])) d.tail s whole d.begins);
         after = λ y. agrees_never n x.text x.rest s x.whole x.bad.0 y;
       } in
-      (subst (λ (k : ℕ). IsDeepFault L n s k) at fault, omega (arith, len, x.at))
+      (subst (λ (k : ℕ). IsDeepFault opens L n s k) at fault, omega (arith, len, x.at))
 
-  judged : (s : List T) (out : Outcome T A) → Exact L ext n s out → Judges L n s (ended out)
+  judged : (s : List T) (out : Outcome T A) → Exact opens L ext n s out → Judges opens L n s (ended out)
   judged s (Ok (a, [])) x = judged_value s a x
   judged s (Ok (a, t ∷ rest)) x = judged_more s a t rest x
   judged s (Err e) x = judged_stop s e x
 
-  read : (s : List T) (a : A) → L n s a → (out : Outcome T A) → Exact L ext n s out → ended out ≡ Ok a
+  read : (s : List T) (a : A) → L n s a → (out : Outcome T A) → Exact opens L ext n s out → ended out ≡ Ok a
   read s a t (Ok (b, [])) x = ap Ok (sym (x.only n s a [] [] t refl refl (append-nil s ∙ x.whole)).1)
   read s a t (Ok (b, u ∷ rest)) x =
       let one = x.only n s a [] (u ∷ rest) t refl refl (append-nil s ∙ x.whole) in
       let nothing : u ∷ rest ≡ [] = append_cancel_left x.text (u ∷ rest) [] (sym x.whole ∙ one.0 ∙ sym (append-nil x.text)) in
       absurd (nil_cons (sym nothing))
-  read s a t (Err e) x = absurd (never_at L ext n x.text x.rest e.0 x.bad s a [] x.rest t refl refl (append-nil s ∙ x.whole))
+  read s a t (Err e) x = absurd (never_at opens L ext n x.text x.rest e.0 x.bad s a [] x.rest t refl refl (append-nil s ∙ x.whole))
 
 -- What a rule says of the answer on all of the tokens: the one value, or the fault and its place.
-pub judges : {T A : Type 0} {L : Langs T A} {ext : T → Bool} {n : ℕ} {P : Parser T A} → IsRule L P ext n → (s : List T) → Judges L n s (all_of P s)
-judges {L = L} {ext = ext} {n = n} {P = P} x s = judged L ext n s (P s) (x.exact s)
+pub judges : {T A : Type 0} {opens : T → Bool} {L : Langs T A} {ext : T → Bool} {n : ℕ} {P : Parser T A} → IsRule opens L P ext n → (s : List T) → Judges opens L n s (all_of P s)
+judges {opens = opens} {L = L} {ext = ext} {n = n} {P = P} x s = judged opens L ext n s (P s) (x.exact s)
 
 -- What is spelled is read.
-pub is_read : {T A : Type 0} {L : Langs T A} {ext : T → Bool} {n : ℕ} {P : Parser T A} → IsRule L P ext n → (s : List T) (a : A) → L n s a → all_of P s ≡ Ok a
-is_read {L = L} {ext = ext} {n = n} {P = P} x s a t = read L ext n s a t (P s) (x.exact s)
+pub is_read : {T A : Type 0} {opens : T → Bool} {L : Langs T A} {ext : T → Bool} {n : ℕ} {P : Parser T A} → IsRule opens L P ext n → (s : List T) (a : A) → L n s a → all_of P s ≡ Ok a
+is_read {opens = opens} {L = L} {ext = ext} {n = n} {P = P} x s a t = read opens L ext n s a t (P s) (x.exact s)
 
 value_is : {A E : Type 0} {a b : A} → ◌≡◌ {A = Result A E} (Ok a) (Ok b) → a ≡ b
 value_is e = cc
 
 -- Tokens spell one value at most, whatever the depth.
-pub one_value : {T A : Type 0} {L : Langs T A} {ext : T → Bool} {P : ℕ → Parser T A} → ((n : ℕ) → IsRule L (P n) ext n) → (m n : ℕ) (s : List T) (a b : A) → L m s a → L n s b → a ≡ b
+pub one_value : {T A : Type 0} {opens : T → Bool} {L : Langs T A} {ext : T → Bool} {P : ℕ → Parser T A} → ((n : ℕ) → IsRule opens L (P n) ext n) → (m n : ℕ) (s : List T) (a b : A) → L m s a → L n s b → a ≡ b
 one_value rules m n s a b x y =
     let rule = rules (m + n) in
     value_is (sym (is_read rule s a (rule.grows m (m + n) s a (omega arith) x)) ∙ is_read rule s b (rule.grows n (m + n) s b (omega arith) y))
 
 -- The value that was found is the only one.
-pub found_by : {T A : Type 0} {L : Langs T A} {ext : T → Bool} {n : ℕ} {P : Parser T A} → IsRule L P ext n → (s : List T) (a : A) → all_of P s ≡ Ok a → IsOnly L n s a
-found_by {L = L} {n = n} rule s a e = subst (λ r. Judges L n s r) e (judges rule s)
+pub found_by : {T A : Type 0} {opens : T → Bool} {L : Langs T A} {ext : T → Bool} {n : ℕ} {P : Parser T A} → IsRule opens L P ext n → (s : List T) (a : A) → all_of P s ≡ Ok a → IsOnly L n s a
+found_by {opens = opens} {L = L} {n = n} rule s a e = subst (λ r. Judges opens L n s r) e (judges rule s)
 
 -- The refusal is a fault of its kind at its place.
-fault_by : {T A : Type 0} {L : Langs T A} {ext : T → Bool} {n : ℕ} {P : Parser T A} → IsRule L P ext n → (s : List T) (why : Why) (left : ℕ) → all_of P s ≡ Err (why, left) → IsFault why L n s (length s - left) × (left ≤ length s)
-fault_by {L = L} {n = n} rule s why left e = subst (λ r. Judges L n s r) e (judges rule s)
+fault_by : {T A : Type 0} {opens : T → Bool} {L : Langs T A} {ext : T → Bool} {n : ℕ} {P : Parser T A} → IsRule opens L P ext n → (s : List T) (why : Why) (left : ℕ) → all_of P s ≡ Err (why, left) → IsFault why opens L n s (length s - left) × (left ≤ length s)
+fault_by {opens = opens} {L = L} {n = n} rule s why left e = subst (λ r. Judges opens L n s r) e (judges rule s)
 
 -- What is spelled is what was found.
-pub complete_by : {T A : Type 0} {L : Langs T A} {ext : T → Bool} {n : ℕ} {P : Parser T A} → IsRule L P ext n → (s : List T) (a b : A) → all_of P s ≡ Ok a → L n s b → a ≡ b
+pub complete_by : {T A : Type 0} {opens : T → Bool} {L : Langs T A} {ext : T → Bool} {n : ℕ} {P : Parser T A} → IsRule opens L P ext n → (s : List T) (a b : A) → all_of P s ≡ Ok a → L n s b → a ≡ b
 complete_by rule s a b e t = value_is (sym e ∙ is_read rule s b t)
 
 ok_is_not_err : {A E : Type 0} {a : A} {e : E} → ◌≡◌ {A = Result A E} (Ok a) (Err e) → ⊥
 ok_is_not_err e = cc
 
 -- What is spelled is not refused.
-pub not_refused_by : {T A : Type 0} {L : Langs T A} {ext : T → Bool} {n : ℕ} {P : Parser T A} → IsRule L P ext n → (s : List T) (why : Why) (left : ℕ) (b : A) → all_of P s ≡ Err (why, left) → L n s b → ⊥
+pub not_refused_by : {T A : Type 0} {opens : T → Bool} {L : Langs T A} {ext : T → Bool} {n : ℕ} {P : Parser T A} → IsRule opens L P ext n → (s : List T) (why : Why) (left : ℕ) (b : A) → all_of P s ≡ Err (why, left) → L n s b → ⊥
 not_refused_by rule s why left b e t = ok_is_not_err (sym (is_read rule s b t) ∙ e)
 
 -- A refusal by syntax is a fault at its place, and so is one by depth.
-pub syntax_by : {T A : Type 0} {L : Langs T A} {ext : T → Bool} {n : ℕ} {P : Parser T A} → IsRule L P ext n → (s : List T) (left at : ℕ) → all_of P s ≡ Err (Syntax, left) → length s - left ≡ at → IsSyntaxFault L n s at
+pub syntax_by : {T A : Type 0} {opens : T → Bool} {L : Langs T A} {ext : T → Bool} {n : ℕ} {P : Parser T A} → IsRule opens L P ext n → (s : List T) (left at : ℕ) → all_of P s ≡ Err (Syntax, left) → length s - left ≡ at → IsSyntaxFault L n s at
 syntax_by {L = L} {n = n} rule s left at e place = subst (λ k. IsSyntaxFault L n s k) place (fault_by rule s Syntax left e).0
 
-pub deep_by : {T A : Type 0} {L : Langs T A} {ext : T → Bool} {n : ℕ} {P : Parser T A} → IsRule L P ext n → (s : List T) (left at : ℕ) → all_of P s ≡ Err (Deep, left) → length s - left ≡ at → IsDeepFault L n s at
-deep_by {L = L} {n = n} rule s left at e place = subst (λ k. IsDeepFault L n s k) place (fault_by rule s Deep left e).0
+pub deep_by : {T A : Type 0} {opens : T → Bool} {L : Langs T A} {ext : T → Bool} {n : ℕ} {P : Parser T A} → IsRule opens L P ext n → (s : List T) (left at : ℕ) → all_of P s ≡ Err (Deep, left) → length s - left ≡ at → IsDeepFault opens L n s at
+deep_by {opens = opens} {L = L} {n = n} rule s left at e place = subst (λ k. IsDeepFault opens L n s k) place (fault_by rule s Deep left e).0
 
 -- A refusal leaves no more tokens than there were.
-pub left_within : {T A : Type 0} {L : Langs T A} {ext : T → Bool} {n : ℕ} {P : Parser T A} → IsRule L P ext n → (s : List T) (why : Why) (left : ℕ) → all_of P s ≡ Err (why, left) → left ≤ length s
+pub left_within : {T A : Type 0} {opens : T → Bool} {L : Langs T A} {ext : T → Bool} {n : ℕ} {P : Parser T A} → IsRule opens L P ext n → (s : List T) (why : Why) (left : ℕ) → all_of P s ≡ Err (why, left) → left ≤ length s
 left_within rule s why left e = (fault_by rule s why left e).1

@@ -1,5 +1,5 @@
 -- What a parser says of the whole of the tokens, in words that a public contract can cite.
-use Rattle.std.specs.Prelude.{◌≡◌, ℕ, suc, ◌-◌, ◌<◌, ◌≤◌, List, length, take, Result, Ok, Err}
+use Rattle.std.specs.Prelude.{◌≡◌, ℕ, suc, ◌-◌, ◌<◌, ◌≤◌, Bool, true, List, length, take, slice_get, Option, Some, Result, Ok, Err}
 use Rattle.formal_grammar.specs.declared.stop.Why.{Why}
 use Rattle.formal_grammar.specs.declared.stop.Why.TheVariants.{Syntax, Deep}
 use Rattle.formal_grammar.specs.Exact.{Langs}
@@ -17,9 +17,13 @@ pub record IsSyntaxFault {T A : Type 0} (L : Langs T A) (n : ℕ) (s : List T) (
   pub before : Agrees L n at s
   pub after : (m : ℕ) → Agrees L m (suc at) s → ⊥
 
--- The tokens before `at` begin a text of depth n. With the token at `at` they begin one of more depth, and none of depth n.
-pub record IsDeepFault {T A : Type 0} (L : Langs T A) (n : ℕ) (s : List T) (at : ℕ) : Type 0 where
+-- The tokens before `at` begin a text of depth n. With the token at `at`, one of those that open a level, they
+-- begin one of more depth, and none of depth n.
+pub record IsDeepFault {T A : Type 0} (opens : T → Bool) (L : Langs T A) (n : ℕ) (s : List T) (at : ℕ) : Type 0 where
   pub within : at < length s
+  pub token : T
+  pub there : slice_get s at ≡ Some token
+  pub opening : opens token ≡ true
   pub before : Agrees L n at s
   pub depth : ℕ
   pub deeper : Agrees L depth (suc at) s
@@ -31,11 +35,11 @@ pub record IsOnly {T A : Type 0} (L : Langs T A) (n : ℕ) (s : List T) (a : A) 
   pub only : (m : ℕ) (b : A) → L m s b → b ≡ a
 
 -- The fault of this kind stands at this place.
-abbrev pub IsFault : {T A : Type 0} → Why → Langs T A → ℕ → List T → ℕ → Type 0
-IsFault Syntax L n s at = IsSyntaxFault L n s at
-IsFault Deep L n s at = IsDeepFault L n s at
+abbrev pub IsFault : {T A : Type 0} → Why → (T → Bool) → Langs T A → ℕ → List T → ℕ → Type 0
+IsFault Syntax opens L n s at = IsSyntaxFault L n s at
+IsFault Deep opens L n s at = IsDeepFault opens L n s at
 
 -- The answer on all of the tokens: the one value, or the fault, before so many tokens from the end.
-abbrev pub Judges : {T A : Type 0} → Langs T A → ℕ → List T → Result A (Why × ℕ) → Type 0
-Judges L n s (Ok a) = IsOnly L n s a
-Judges L n s (Err e) = IsFault e.0 L n s (length s - e.1) × (e.1 ≤ length s)
+abbrev pub Judges : {T A : Type 0} → (T → Bool) → Langs T A → ℕ → List T → Result A (Why × ℕ) → Type 0
+Judges opens L n s (Ok a) = IsOnly L n s a
+Judges opens L n s (Err e) = IsFault e.0 opens L n s (length s - e.1) × (e.1 ≤ length s)

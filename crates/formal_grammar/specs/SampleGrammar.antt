@@ -1,5 +1,5 @@
 -- The sample's grammar: which tokens spell which sum.
-use Rattle.std.specs.Prelude.{ℕ, zero, suc, Bool, Option, Some, None, is_some}
+use Rattle.std.specs.Prelude.{ℕ, zero, suc, Bool, true, false, Option, Some, None, is_some}
 use Rattle.formal_grammar.specs.declared.sample.Sign.TheVariants.{Open, Close, Plus, Bang}
 use Rattle.formal_grammar.specs.declared.sample.Token.{Token}
 use Rattle.formal_grammar.specs.declared.sample.Token.TheVariants as token
@@ -43,6 +43,11 @@ bracketed sum = do
 unfoldable pub item : ℕ → Lang Token Expr
 item zero = number
 item (suc n) = bracketed (sum_of (item n)) or number
+
+-- The tokens that open one more level.
+abbrev pub opens : Token → Bool
+opens (token.Sign Open) = true
+opens t = false
 
 -- The sums with at most n brackets open at one place.
 abbrev pub sum : ℕ → Lang Token Expr

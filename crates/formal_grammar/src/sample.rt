@@ -55,11 +55,14 @@ pub fn parse(alloc: Global, tokens: &[Token]) -> Result<Expr, ParseFault>
     // What is found is what the tokens spell, and they spell nothing else.
     ensures found { IfOk result (λ t. IsOnly (λ m. grammar.sum m) 4 tokens.now t) }
     // What is spelled is found, unless memory runs out.
-    ensures complete { (t : _) → grammar.sum 4 tokens.now t → MatchResult result (λ u. u ≡ t) (λ e. e ≡ ParseFault.Memory) }
+    ensures complete { (t : _) → grammar.sum 4 tokens.now t
+        → MatchResult result (λ u. u ≡ t) (λ e. e ≡ ParseFault.Memory) }
     // The tokens before this place begin a sum, and with the token there they begin none, however deep.
-    ensures syntax { (at : ℕ) → result ≡ Err (ParseFault.Syntax at) → IsSyntaxFault (λ m. grammar.sum m) 4 tokens.now at }
-    // With the token at this place the tokens begin only sums with more open brackets than are allowed.
-    ensures deep { (at : ℕ) → result ≡ Err (ParseFault.Deep at) → IsDeepFault (λ m. grammar.sum m) 4 tokens.now at }
+    ensures syntax { (at : ℕ) → result ≡ Err (ParseFault.Syntax at)
+        → IsSyntaxFault (λ m. grammar.sum m) 4 tokens.now at }
+    // A bracket opens at this place, and with it the tokens begin only sums with more open than are allowed.
+    ensures deep { (at : ℕ) → result ≡ Err (ParseFault.Deep at)
+        → IsDeepFault grammar.opens (λ m. grammar.sum m) 4 tokens.now at }
 {
     match whole(alloc, tokens) {
         Ok(expr) => Ok(expr),
@@ -71,7 +74,8 @@ pub fn parse(alloc: Global, tokens: &[Token]) -> Result<Expr, ParseFault>
 
 /// A law: tokens spell one sum at most, whatever the depth.
 pub fn one_tree()
-    ensures { (m n : ℕ) (tokens : List Token) (t u : _) → grammar.sum m tokens t → grammar.sum n tokens u → t ≡ u }
+    ensures { (m n : ℕ) (tokens : List Token) (t u : _) → grammar.sum m tokens t
+        → grammar.sum n tokens u → t ≡ u }
 {}
 
 fn whole(alloc: Global, tokens: &[Token]) -> Result<Expr, ReadError>
@@ -135,7 +139,8 @@ fn sum(alloc: Global, depth: u32, tokens: &[Token]) -> Result<(Expr, &[Token]), 
 
 #[cycle(sums)]
 fn items(alloc: Global, depth: u32, tokens: &[Token]) -> Result<(Items<Expr>, &[Token]), ReadError>
-    ensures { Gives (λ x. (x.0, x.1.now)) result (separated (read.is Sign.Plus) (read.item depth) tokens.now) }
+    ensures { Gives (λ x. (x.0, x.1.now)) result
+        (separated (read.is Sign.Plus) (read.item depth) tokens.now) }
 {
     let (first, mut rest) = item(alloc, depth, tokens)?;
     let mut items = Items::new(alloc);
@@ -173,7 +178,8 @@ fn item(alloc: Global, depth: u32, tokens: &[Token]) -> Result<(Expr, &[Token]),
 #[cycle(sums)]
 #[tactic(auto, unfolding(crate::specs::SampleReading::bracketed))]
 fn bracketed(alloc: Global, depth: u32, tokens: &[Token]) -> Result<(Expr, &[Token]), ReadError>
-    ensures { Gives (λ x. (x.0, x.1.now)) result (read.bracketed (read.sum (read.item depth)) tokens.now) }
+    ensures { Gives (λ x. (x.0, x.1.now)) result
+        (read.bracketed (read.sum (read.item depth)) tokens.now) }
 {
     let rest = take(tokens, Sign::Open)?;
     let (expr, rest) = sum(alloc, depth, rest)?;
