@@ -10,6 +10,7 @@ use Rattle.formal_grammar.proofs.Single.{rule_gives}
 use Rattle.formal_grammar.proofs.Joins.{starts_then, joins_gives}
 
 module _ {T A : Type 0} (opens : T → Bool) (p q : Langs T A) (ext : T → Bool) (n : ℕ) where
+  -- the language of both
   abbrev choice : Langs T A
   choice m = p m or q m
 
@@ -29,14 +30,17 @@ module _ {T A : Type 0} (opens : T → Bool) (p q : Langs T A) (ext : T → Bool
       from m w a k (inl t) apart same = absurd (not_left m w a k t apart same)
       from m w a k (inr t) apart same = t
 
+  -- A choice grows as its parts do.
   pub grows_choice : Grows p → Grows q → Grows choice
   grows_choice x y m k w a le (inl t) = inl (x m k w a le t)
   grows_choice x y m k w a le (inr t) = inr (y m k w a le t)
 
+  -- A choice has a text if its second part has.
   pub has_right : (m : ℕ) → Has q m → Has choice m
   has_right m x = record { text = x.text; value = x.value; spells = inr x.spells }
 
   module _ (f : T → Bool) (starts : Starts f p) (joins : Joins f q ext) where
+    -- the part that the first token chooses
     chosen : (s : List T) (b : Bool) (x y : Outcome T A) → sees f s ≡ b → (b ≡ true → Exact opens p ext n s x) → (b ≡ false → Exact opens q ext n s y) → Exact opens choice ext n s (if b then x else y)
     chosen s true x y sees-is left right = exact_left s (λ m w a k t apart same. both_ways (sees-peek f (w ++ k) s same ∙ sees-is) (joins.clear m w a k t apart)) x (left refl)
     chosen s false x y sees-is left right = exact_right s (λ m w a k t apart same. both_ways (starts-sees w k (starts.first m w a t)) (sees-peek f (w ++ k) s same ∙ sees-is)) y (right refl)

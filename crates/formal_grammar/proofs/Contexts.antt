@@ -10,10 +10,12 @@ pub peek-append : {T : Type 0} (front a b : List T) → peek a ≡ peek b → pe
 peek-append [] a b same = same
 peek-append (t ∷ front) a b same = refl
 
+-- the test of a first token, if there is one
 seen : {T : Type 0} → (T → Bool) → Option T → Bool
 seen f (Some t) = f t
 seen f None = false
 
+-- a test sees the first token alone
 sees-seen : {T : Type 0} (f : T → Bool) (s : List T) → sees f s ≡ seen f (peek s)
 unfolding seen
 sees-seen f [] = refl

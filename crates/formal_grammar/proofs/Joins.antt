@@ -1,6 +1,6 @@
 -- What stands first where a text stands: the conditions at each join of two parts.
 use Rattle.std.proofs.Common.{◌≡◌, ℕ, zero, suc, Bool, true, false, List, [], ◌∷◌, ◌++◌, Option, Some, None, ◌⊎◌, inl, inr, refl, ap, ◌∙◌, append_assoc}
-use Rattle.formal_grammar.specs.Lang.{◌>>=◌, ◌or◌, gives, shown, the, optional, many, listed}
+use Rattle.formal_grammar.specs.Lang.{◌>>=◌, ◌or◌, gives, shown, token, the, optional, many, listed}
 use Rattle.formal_grammar.specs.Parse.{sees}
 use Rattle.formal_grammar.specs.Exact.{Langs, none, Within, Apart, StartsIn, Starts, Joins, nested}
 use Rattle.formal_grammar.proofs.Contexts.{sees-none, sees-within, both_ways}
@@ -27,10 +27,15 @@ starts_or {T = T} {A = A} {f = f} {p = p} {q = q} x y = record { first = first }
 pub starts_shown : {T A : Type 0} {f : T → Bool} {view : T → Option A} → ((t : T) (a : A) → view t ≡ Some a → f t ≡ true) → Starts f (λ m. shown view)
 starts_shown passes = record { first = λ m w a t. record { head = t.0; tail = []; cons = t.1; passes = passes t.0 a t.2 } }
 
+-- The token that is made of a value begins with itself.
+pub starts_token : {T A : Type 0} {f : T → Bool} {make : A → T} → ((a : A) → f (make a) ≡ true) → Starts f (λ m. token make)
+starts_token {make = make} passes = record { first = λ m w a e. record { head = make a; tail = []; cons = e; passes = passes a } }
+
 -- This token begins with itself.
 pub starts_the : {T : Type 0} {f : T → Bool} {t : T} → f t ≡ true → Starts f (λ m. the t)
 starts_the {t = t} passes = record { first = λ m w a e. record { head = t; tail = []; cons = e; passes = passes } }
 
+-- what passes a test passes a larger one
 in_larger : (small large : Bool) → (large ≡ false → small ≡ false) → small ≡ true → large ≡ true
 in_larger small true within passes = refl
 in_larger small false within passes = absurd (both_ways passes (within refl))

@@ -14,6 +14,7 @@ same_two (t ∷ text) rest other s x whole some e same =
     (ap peek e ∙ sym (ap peek whole), ap (λ z. peek (rest_of z)) e ∙ peek-append text other rest same ∙ sym (ap (λ z. peek (rest_of z)) whole))
 
 module _ {T A : Type 0} (opens : T → Bool) (L M : Langs T A) (ext : T → Bool) (n : ℕ) (to : (m : ℕ) (w : List T) (a : A) → L m w a → M m w a) (s : List T) (some : (m : ℕ) (a : A) → L m [] a → ⊥) (t : T) (tail : List T) (cons : s ≡ t ∷ tail) (first_is : Begins L n (t ∷ [])) (from : (m : ℕ) (w : List T) (a : A) (k : List T) → M m w a → sees ext k ≡ false → peek (rest_of (w ++ k)) ≡ peek (rest_of s) → L m w a) where
+  -- what was taken is taken of the larger language
   took_pair : (a : A) (rest : List T) → Took L ext n s a rest → Took M ext n s a rest
   took_pair a rest x = record {
     text = x.text;
@@ -31,6 +32,7 @@ module _ {T A : Type 0} (opens : T → Bool) (L M : Langs T A) (ext : T → Bool
       let first : peek rest ≡ peek (t ∷ tail) = sym (ap (λ z. peek (z ++ rest)) e) ∙ sym (ap peek whole) ∙ ap peek cons in
       none ((t ∷ []) ++ first_is.more) first_is.value [] (t ∷ first_is.more) first_is.text refl (sym first) (append-nil (t ∷ first_is.more) ∙ sym (ap (λ z. z ++ (t ∷ first_is.more)) e))
 
+  -- what was refused is refused of the larger language
   stopped_pair : (e : Why × ℕ) → Stopped opens L ext n s e.0 e.1 → Stopped opens M ext n s e.0 e.1
   stopped_pair e x = record {
     text = x.text;
@@ -59,12 +61,15 @@ module _ {T A : Type 0} (opens : T → Bool) (L M : Langs T A) (ext : T → Bool
   exact_pair (Err e) exact = stopped_pair e exact
 
 module _ {T A : Type 0} (opens : T → Bool) (p q : Langs T A) (ext g h : T → Bool) (n : ℕ) (starts_p : Starts g p) (starts_q : Starts g q) (second_p : Seconds h true p ext) (second_q : Seconds h false q ext) (heads_p : (t : T) → g t ≡ true → Begins p n (t ∷ [])) (heads_q : (t : T) → g t ≡ true → Begins q n (t ∷ [])) where
+  -- the language of both
   abbrev choice : Langs T A
   choice m = p m or q m
 
+  -- what begins with a token is not empty
   not_empty : (L : Langs T A) → Starts g L → (m : ℕ) (a : A) → L m [] a → ⊥
   not_empty L starts m a x = both_ways (starts-sees [] [] (starts.first m [] a x)) refl
 
+  -- the part that the second token chooses
   second_chosen : (t : T) (s : List T) (b : Bool) (x y : Outcome T A) → g t ≡ true → sees h s ≡ b → Exact opens p ext n (t ∷ s) x → Exact opens q ext n (t ∷ s) y → Exact opens choice ext n (t ∷ s) (if b then x else y)
   second_chosen t s true x y passes sees-is left right = exact_pair opens p choice ext n (λ m w a u. inl u) (t ∷ s) (not_empty p starts_p) t s refl (heads_p t passes) from x left
     where
@@ -77,6 +82,7 @@ module _ {T A : Type 0} (opens : T → Bool) (p q : Langs T A) (ext g h : T → 
       from m w a k (inl u) apart same = absurd (both_ways (second_p.second m w a k u apart) (sees-peek h (rest_of (w ++ k)) s same ∙ sees-is))
       from m w a k (inr u) apart same = u
 
+  -- the part that the first two tokens choose
   two_chosen : (s : List T) (b : Bool) (x y : Outcome T A) → sees g s ≡ b → Exact opens p ext n s x → Exact opens q ext n s y → Exact opens choice ext n s (if b then (if sees h (rest_of s) then x else y) else y)
   two_chosen [] true x y sees-is left right = absurd (both_ways sees-is refl)
   two_chosen (t ∷ s) true x y sees-is left right = second_chosen t s (sees h s) x y sees-is refl left right

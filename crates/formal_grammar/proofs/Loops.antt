@@ -17,6 +17,7 @@ pub record Shrinks {T A : Type 0} (P : Parser T A) : Type 0 where
 pub shrinks : {T A : Type 0} {opens : T → Bool} {L : Langs T A} {P : Parser T A} {f ext : T → Bool} {n : ℕ} → Starts f L → IsRule opens L P ext n → Shrinks P
 shrinks {opens = opens} {L = L} {ext = ext} {n = n} starts x = record { less = λ s a u e. took_less starts (subst (λ o. Exact opens L ext n s o) e (x.exact s)) }
 
+-- two ways to go on that agree behind each value agree
 same_turns : {T A : Type 0} (b : Bool) (s : List T) (o : Outcome T A) (F G : A → Parser T (List A)) → ((a : A) (u : List T) → o ≡ Ok (a, u) → F a u ≡ G a u) → (if b then and_then o F else Ok ([], s)) ≡ (if b then and_then o G else Ok ([], s))
 same_turns true s (Ok x) F G same = same x.0 x.1 refl
 same_turns true s (Err e) F G same = refl
@@ -36,16 +37,19 @@ module _ {T A : Type 0} (f : T → Bool) (P : Parser T A) (less : Shrinks P) whe
       let lt : length u < length s = less.less s a u e in
       ap (λ o. and_then o (λ later. pure (a ∷ later))) (turns_enough j k u (omega arith) (omega arith)))
 
+  -- a part that stands there is the first of the repetition
   repeat_one : (s : List T) (a : A) (u : List T) → sees f s ≡ true → P s ≡ Ok (a, u) → repeat f P s ≡ and_then (repeat f P u) (λ later. pure (a ∷ later))
   repeat_one [] a u sees-is e = absurd (both_ways sees-is refl)
   repeat_one (t ∷ s) a u sees-is e =
       let lt : length u < length (t ∷ s) = less.less (t ∷ s) a u e in
       rw (sees-is, e) (ap (λ o. and_then o (λ later. pure (a ∷ later))) (turns_enough (length s) (length u) u (omega arith) (le_refl (length u))))
 
+-- a part that is refused refuses the repetition
 repeat_stop : {T A : Type 0} (f : T → Bool) (P : Parser T A) (s : List T) (e : Why × ℕ) → sees f s ≡ true → P s ≡ Err e → repeat f P s ≡ Err e
 repeat_stop f P [] e sees-is stops = absurd (both_ways sees-is refl)
 repeat_stop f P (t ∷ s) e sees-is stops = rw (sees-is, stops) refl
 
+-- where no part begins the repetition is empty
 repeat_done : {T A : Type 0} (f : T → Bool) (P : Parser T A) (s : List T) → sees f s ≡ false → repeat f P s ≡ Ok ([], s)
 repeat_done f P [] sees-is = refl
 repeat_done f P (t ∷ s) sees-is = rw sees-is refl
@@ -55,6 +59,7 @@ abbrev pub fold_front : {T A B : Type 0} → (B → A → B) → B → Outcome T
 fold_front add v (Ok x) = Ok (fold add v x.0, x.1)
 fold_front add v (Err e) = Err e
 
+-- the first part goes to what was put together
 fold_one : {T A B : Type 0} (add : B → A → B) (v : B) (a : A) (o : Outcome T (List A)) → fold_front add v (and_then o (λ later. pure (a ∷ later))) ≡ fold_front add (add v a) o
 fold_one add v a (Ok x) = refl
 fold_one add v a (Err e) = refl
@@ -80,6 +85,7 @@ one_item is P s a u e closed = rw e (rw (repeat_done is (accept (this is) >> P) 
 pub more_items : {T A B : Type 0} (add : B → A → B) (is : T → Bool) (P : Parser T A) (v : B) (s : List T) (a : A) (u : List T) → P s ≡ Ok (a, u) → fold_front add (add v a) (repeat is (accept (this is) >> P) u) ≡ fold_front add v (separated is P s)
 more_items add is P v s a u e = rw e (sym (fold_one add v a (repeat is (accept (this is) >> P) u)))
 
+-- to append what each part gives is to append all of it
 fold_flat : {A B : Type 0} (g : A → List B) (v : List B) (xs : List A) → fold (λ w a. w ++ g a) v xs ≡ v ++ flat_map g xs
 fold_flat g v [] = sym (append-nil v)
 fold_flat g v (a ∷ xs) = fold_flat g (v ++ g a) xs ∙ append_assoc v (g a) (flat_map g xs)
@@ -89,6 +95,7 @@ pub flat_items : {T A B : Type 0} (g : A → List B) (v : List B) (o : Outcome T
 flat_items g v (Ok x) = ap (λ z. Ok (z, x.1)) (fold_flat g v x.0)
 flat_items g v (Err e) = refl
 
+-- to push each part is to append them
 fold_push : {A : Type 0} (v xs : List A) → fold push v xs ≡ v ++ xs
 fold_push v [] = sym (append-nil v)
 fold_push v (a ∷ xs) = fold_push (push v a) xs ∙ append_assoc v (a ∷ []) xs

@@ -15,13 +15,16 @@ grows_nested L grows (suc m) zero w a le t = absurd (omega (arith, le))
 grows_nested L grows (suc m) (suc k) w a le t = grows m k w a (omega (arith, le)) t
 
 module _ {T A : Type 0} (opens : T → Bool) (L : Langs T A) (ext : T → Bool) (n : ℕ) where
+  -- nested texts are there one level deeper
   has_nested : ((m : ℕ) → n ≤ m → Has L m) → (m : ℕ) → suc n ≤ m → Has (nested L) m
   has_nested has zero le = absurd (omega (arith, le))
   has_nested has (suc m) le = let h = has m (omega (arith, le)) in record { text = h.text; value = h.value; spells = h.spells }
 
+  -- what begins a text begins a nested one
   begins_nested : (m : ℕ) (p : List T) → Begins L m p → Begins (nested L) (suc m) p
   begins_nested m p x = record { more = x.more; value = x.value; text = x.text }
 
+  -- what is refused is refused of the nested texts
   bad_nested : (why : Why) (p rest : List T) → IsBad why opens L ext n p rest → IsBad why opens (nested L) ext (suc n) p rest
   bad_nested Syntax p rest bad = never
     where
@@ -32,6 +35,7 @@ module _ {T A : Type 0} (opens : T → Bool) (L : Langs T A) (ext : T → Bool) 
       let d = bad.1 in
       (bad.0, record { depth = suc d.depth; head = d.head; tail = d.tail; cons = d.cons; opening = d.opening; more = omega (arith, d.more); begins = begins_nested d.depth (p ++ (d.head ∷ [])) d.begins })
 
+  -- what was taken is taken of the nested texts
   took_nested : (s : List T) (a : A) (rest : List T) → Took L ext n s a rest → Took (nested L) ext (suc n) s a rest
   took_nested s a rest x = record { text = x.text; whole = x.whole; spells = x.spells; only = only }
     where
@@ -39,6 +43,7 @@ module _ {T A : Type 0} (opens : T → Bool) (L : Langs T A) (ext : T → Bool) 
       only zero w b k other t apart same e = absurd t
       only (suc m) w b k other t apart same e = x.only m w b k other t apart same e
 
+  -- an outcome that is exact is exact for the nested texts
   exact_nested : (s : List T) (out : Outcome T A) → Exact opens L ext n s out → Exact opens (nested L) ext (suc n) s out
   exact_nested s (Ok y) exact = took_nested s y.0 y.1 exact
   exact_nested s (Err e) x = record {
@@ -59,16 +64,20 @@ rule_nested {opens = opens} {L = L} {P = P} {ext = ext} {n = n} x = record {
 }
 
 module _ {T A : Type 0} (opens : T → Bool) (p q : Langs T A) (ext f : T → Bool) (inside : (t : T) → f t ≡ true → opens t ≡ true) (starts : Starts f p) (joins : Joins f q ext) (empty : (w : List T) (a : A) → p 0 w a → ⊥) (begins : (t : T) → f t ≡ true → Begins p 1 (t ∷ [])) where
+  -- the language of both
   abbrev choice : Langs T A
   choice m = p m or q m
 
+  -- no token begins a text
   begins_empty : Has q 0 → Begins choice 0 []
   begins_empty h = record { more = h.text; value = h.value; text = inr h.spells }
 
+  -- at depth 0 no text begins with what opens
   never_here : (s : List T) → sees f s ≡ true → Never choice ext 0 [] s
   never_here s sees-is w a k other (inl t) apart same e = empty w a t
   never_here s sees-is w a k other (inr t) apart same e = both_ways (sees-peek f (w ++ k) s (ap peek e ∙ same) ∙ sees-is) (joins.clear 0 w a k t apart)
 
+  -- to stop there is exact
   floor_stops : (s : List T) → Has q 0 → sees f s ≡ true → Exact opens choice ext 0 s (stop Deep s)
   floor_stops [] h sees-is = absurd (both_ways sees-is refl)
   floor_stops (t ∷ s) h sees-is =
@@ -82,6 +91,7 @@ module _ {T A : Type 0} (opens : T → Bool) (p q : Langs T A) (ext f : T → Bo
         bad = (never_here (t ∷ s) sees-is, record { depth = 1; head = t; tail = s; cons = refl; opening = inside t sees-is; more = omega arith; begins = record { more = b.more; value = b.value; text = inl b.text } });
       }
 
+  -- the part that the first token chooses
   floor_chosen : (s : List T) (b : Bool) (Q : Parser T A) → sees f s ≡ b → Has q 0 → Exact opens q ext 0 s (Q s) → Exact opens choice ext 0 s (if b then stop Deep s else Q s)
   floor_chosen s true Q sees-is h exact = floor_stops s h sees-is
   floor_chosen s false Q sees-is h exact = exact_right opens p q ext 0 s (λ m w a k t apart same. both_ways (starts-sees w k (starts.first m w a t)) (sees-peek f (w ++ k) s same ∙ sees-is)) (Q s) exact

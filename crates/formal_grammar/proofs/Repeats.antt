@@ -18,9 +18,11 @@ took_less {n = n} {s = s} {a = a} {u = u} starts x =
     omega (arith, whole, some)
 
 module _ {T A : Type 0} (p : Langs T A) where
+  -- one part, and any number behind it
   abbrev some : Langs T (List A)
   some m = p m >>= λ a. many (p m) >>= λ later. gives (a ∷ later)
 
+  -- one part or more are any number
   some_to_many : (m : ℕ) (w : List T) (b : List A) → some m w b → many (p m) w b
   some_to_many m w b t =
       let u = t.second in
@@ -28,6 +30,7 @@ module _ {T A : Type 0} (p : Langs T A) where
       let back : t.back ≡ u.front = u.whole ∙ ap (λ (z : List T). u.front ++ z) u.second.0 ∙ append-nil u.front in
       subst (λ (c : List A). many (p m) w c) (sym value) (t.front, u.front, t.first, u.first, t.whole ∙ ap (λ (z : List T). t.front ++ z) back)
 
+  -- more parts make more repetitions
   grows_many : Grows p → Grows (λ m. many (p m))
   grows_many grows m k w [] le t = t
   grows_many grows m k w (a ∷ later) le t = (t.0, t.1, grows m k t.0 a le t.2, grows_many grows m k t.1 later le t.3, t.4)
@@ -47,6 +50,7 @@ module _ {T A : Type 0} (p : Langs T A) where
       whole = t.4;
     }
 
+    -- where no part begins the empty repetition is exact
     exact_done : (s : List T) → sees f s ≡ false → Exact opens (λ m. many (p m)) ext n s (Ok ([], s))
     exact_done s closed = record { text = []; whole = refl; spells = refl; only = only }
       where
@@ -57,13 +61,16 @@ module _ {T A : Type 0} (p : Langs T A) where
             absurd (both_ways (starts-sees w k x) (sees-peek f (w ++ k) s (ap peek e ∙ same) ∙ closed))
 
     module _ (P : Parser T A) (x : IsRule opens p P e1 n) where
+      -- the reading behind a first part
       abbrev later_parts : A → ℕ → Parser T (List A)
       later_parts a k u = and_then (turns f P k u) (λ later. pure (a ∷ later))
 
+      -- the parts behind a first one
       exact_later : (a : A) (k : ℕ) (u : List T) → Exact opens (λ m. many (p m)) ext n u (turns f P k u) → Exact opens (λ m. many (p m) >>= λ later. gives (a ∷ later)) ext n u (later_parts a k u)
       exact_later a k u exact =
           exact_then opens (λ m. many (p m)) (λ later m. gives (a ∷ later)) ext ext n (λ later. joins_gives ext (a ∷ later) ext (λ t h. h)) u (λ later. pure (a ∷ later)) (turns f P k u) (grows_many x.grows) (λ later. (rule_gives {opens = opens} (a ∷ later) ext n).has) exact (λ later v _. (rule_gives {opens = opens} (a ∷ later) ext n).exact v)
 
+      -- a first part, and those behind it
       exact_one : (k : ℕ) (s : List T) → length s ≤ suc k → sees f s ≡ true → ((u : List T) → length u ≤ k → Exact opens (λ m. many (p m)) ext n u (turns f P k u)) → Exact opens (λ m. many (p m)) ext n s (and_then (P s) (λ a u. later_parts a k u))
       exact_one k s short here_one rest_exact =
           exact_part opens some (λ m. many (p m)) ext ext n (λ t h. h) some_to_many s (many_to_some s here_one) (and_then (P s) (λ a u. later_parts a k u))
@@ -77,10 +84,12 @@ module _ {T A : Type 0} (p : Langs T A) where
           let less : length u < length s = took_less starts took in
           exact_later a k u (rest_exact u (omega arith))))
 
+      -- a first part, or none
       chosen : (k : ℕ) (s : List T) (b : Bool) → sees f s ≡ b → length s ≤ suc k → ((u : List T) → length u ≤ k → Exact opens (λ m. many (p m)) ext n u (turns f P k u)) → Exact opens (λ m. many (p m)) ext n s (if b then and_then (P s) (λ a u. later_parts a k u) else Ok ([], s))
       chosen k s true sees-is short rest_exact = exact_one k s short sees-is rest_exact
       chosen k s false sees-is short rest_exact = exact_done s sees-is
 
+      -- enough turns are exact
       exact_turns : (k : ℕ) (s : List T) → length s ≤ k → Exact opens (λ m. many (p m)) ext n s (turns f P k s)
       exact_turns zero [] short = exact_done [] refl
       exact_turns zero (t ∷ s) short = absurd (omega arith)

@@ -28,6 +28,7 @@ use Rattle.formal_grammar.proofs.Whole.{one_value}
 
 -- ---- signs
 
+-- the sign itself passes its test
 passes : (sign : Sign) → is sign (token.Sign sign) ≡ true
 passes sign = true_same the_type sign sign refl
 
@@ -36,6 +37,7 @@ only : (sign : Sign) (t : Token) → is sign t ≡ true → t ≡ token.Sign sig
 only sign (token.Number n) e = absurd cc
 only sign (token.Sign s) e = ap (λ z. token.Sign z) (same_true the_type tt s sign e)
 
+-- a sign
 the_rule : (sign : Sign) (n : ℕ) → IsRule opens (λ m. the (token.Sign sign)) (accept (this (is sign))) none n
 the_rule sign n = rule_the (is sign) (token.Sign sign) (passes sign) (only sign) n
 
@@ -45,10 +47,12 @@ the_rule sign n = rule_the (is sign) (token.Sign sign) (passes sign) (only sign)
 abbrev goes_on : Token → Bool
 goes_on = either (is Plus) (is Bang)
 
+-- a number
 number_rule : (n : ℕ) → IsRule opens (λ m. number) read.number none n
 unfolding read.number
 number_rule n = rule_seq (rule_shown number_of (token.Number 0) 0 refl n) (λ a. rule_gives (expr.Number a) none n)
 
+-- [ "!" ]
 mark_rule : (n : ℕ) → IsRule opens (λ m. mark) read.mark goes_on n
 unfolding read.mark
 mark_rule n =
@@ -60,6 +64,7 @@ mark_rule n =
 joins_mark : Joins (is Plus) (λ m. mark) goes_on
 joins_mark = joins_skip {p = λ m. the (token.Sign Bang)} {q = λ o m. gives (is_some o)} (apart_one (is Plus) (only Bang) refl) (starts_the (passes Bang)) (λ o. joins_gives (is Plus) (is_some o) goes_on (within_left (is Plus) (is Bang)))
 
+-- item { "+" item } [ "!" ]
 sum_rule : {L : Langs Token Expr} {P : Parser Token Expr} {n : ℕ} → IsRule opens L P none n → IsRule opens (λ m. sum_of (L m)) (read.sum P) goes_on n
 unfolding read.sum
 sum_rule {n = n} x =
@@ -72,6 +77,7 @@ sum_rule {n = n} x =
 abbrev inside : Lang Token Expr → Lang Token Expr
 inside p = p >>= λ e. the (token.Sign Close) >> gives e
 
+-- sum ")"
 inside_rule : {L : Langs Token Expr} {P : Parser Token Expr} {n : ℕ} → IsRule opens L P goes_on n → IsRule opens (λ m. inside (L m)) (λ s. and_then (P s) (λ e u. and_then (accept (this (is Close)) u) (λ _. pure e))) none n
 inside_rule {n = n} x =
     rule_then {q = λ e m. the (token.Sign Close) >> gives e}
@@ -79,13 +85,16 @@ inside_rule {n = n} x =
     x
     (λ e. rule_seq (the_rule Close n) (λ _. rule_gives e none n))
 
+-- "(" sum ")"
 bracketed_rule : {L : Langs Token Expr} {P : Parser Token Expr} {n : ℕ} → IsRule opens L P goes_on n → IsRule opens (λ m. bracketed (L m)) (read.bracketed P) none n
 unfolding read.bracketed
 bracketed_rule {n = n} x = rule_seq {q = λ _ m. _} (the_rule Open n) (λ _. inside_rule x)
 
+-- more items make more sums
 among_sum : {p q : Lang Token Expr} → Among p q → Among (sum_of p) (sum_of q)
 among_sum more = among_then (among_listed (token.Sign Plus) more) (λ items w e t. t)
 
+-- more sums make more in brackets
 among_bracketed : {p q : Lang Token Expr} → Among p q → Among (bracketed p) (bracketed q)
 among_bracketed {p = p} {q = q} more = among_then {p = the (token.Sign Open)} {q = λ _. inside p} {q' = λ _. inside q} (λ w u t. t) (λ _. among_then more (λ e w f t. t))
 
@@ -95,17 +104,20 @@ among_bracketed {p = p} {q = q} more = among_then {p = the (token.Sign Open)} {q
 abbrev opened : Langs Token Expr
 opened = nested (λ m. bracketed (sum_of (item m)))
 
+-- an item is what is opened, or a number
 to_item : (m : ℕ) (w : List Token) (e : Expr) → (opened m or number) w e → item m w e
 unfolding item
 to_item zero w e (inl t) = absurd t
 to_item zero w e (inr t) = t
 to_item (suc m) w e t = t
 
+-- and nothing else
 from_item : (m : ℕ) (w : List Token) (e : Expr) → item m w e → (opened m or number) w e
 unfolding item
 from_item zero w e t = inr t
 from_item (suc m) w e t = t
 
+-- more depth allows more items
 item_grows : (m k : ℕ) (w : List Token) (e : Expr) → m ≤ k → item m w e → item k w e
 unfolding item
 item_grows zero zero w e le t = t
@@ -118,22 +130,27 @@ is_number : Token → Bool
 is_number (token.Number n) = true
 is_number (token.Sign s) = false
 
+-- a number is no bracket
 number_apart : (t : Token) → is_number t ≡ true → is Open t ≡ false
 unfolding is_number
 number_apart (token.Number n) e = refl
 number_apart (token.Sign s) e = absurd cc
 
+-- what shows a number is one
 number_shows : (t : Token) (n : ℕ) → number_of t ≡ Some n → is_number t ≡ true
 unfolding is_number
 number_shows (token.Number k) n e = refl
 number_shows (token.Sign s) n e = absurd cc
 
+-- a number begins with no bracket
 joins_number : Joins (is Open) (λ m. number) none
 joins_number = joins_starts number_apart (starts_then (starts_shown {view = number_of} number_shows))
 
+-- what is opened begins with a bracket
 starts_opened : Starts (is Open) opened
 starts_opened = starts_nested (starts_then {p = λ m. the (token.Sign Open)} {q = λ _ m. inside (sum_of (item m))} (starts_the (passes Open)))
 
+-- more depth allows more to be opened
 opened_grows : Grows opened
 opened_grows = grows_nested (λ m. bracketed (sum_of (item m))) (λ m k w e le. among_bracketed (among_sum (λ v f u. item_grows m k v f le u)) w e)
 
@@ -145,6 +162,7 @@ bracket_opens t e =
     let b = begins_the (token.Sign Open) {L = λ m. inside (sum_of number)} {m = 0} h in
     record { more = b.more; value = b.value; text = rw (only Open t e) b.text }
 
+-- number | "(" sum ")", with n brackets still to open
 item_rule : (n : ℕ) → IsRule opens item (read.item n) none n
 unfolding read.item
 item_rule zero = rule_same item to_item from_item (rule_floor opened (is Open) (λ t e. ap opens (only Open t e)) opened_grows (λ w e t. t) bracket_opens starts_opened joins_number (number_rule 0))

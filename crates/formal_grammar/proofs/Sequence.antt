@@ -8,6 +8,7 @@ use Rattle.formal_grammar.specs.Exact.{Langs, Grows, Has, Never, Begins, Took, D
 use Rattle.formal_grammar.proofs.Contexts.{peek-append, sees-none, bad_as}
 
 module _ {T A B : Type 0} (opens : T → Bool) (p : Langs T A) (q : A → Langs T B) (e1 e2 : T → Bool) (n : ℕ) (joins : (a : A) → Joins e1 (q a) e2) where
+  -- the language of both parts
   abbrev both : Langs T B
   both m = p m >>= λ a. q a m
 
@@ -15,6 +16,7 @@ module _ {T A B : Type 0} (opens : T → Bool) (p : Langs T A) (q : A → Langs 
   first_context : (m : ℕ) (w : List T) (b : B) (k : List T) (t : both m w b) → sees e2 k ≡ false → sees e1 (t.back ++ k) ≡ false
   first_context m w b k t apart = (joins t.value).clear m t.back b k t.second apart
 
+  -- the first part, and the second with what follows, are the whole
   first_whole : (m : ℕ) (w : List T) (b : B) (k x : List T) (t : both m w b) → w ++ k ≡ x → t.front ++ (t.back ++ k) ≡ x
   first_whole m w b k x t e = sym (append_assoc t.front t.back k) ∙ ap (λ (z : List T). z ++ k) (sym t.whole) ∙ e
 
@@ -25,6 +27,7 @@ module _ {T A B : Type 0} (opens : T → Bool) (p : Langs T A) (q : A → Langs 
     whole : w ≡ text ++ back
     context : back ++ k ≡ later
 
+  -- the first part of a text that agrees is the one that was taken
   behind : (s u : List T) (a : A) (took : Took p e1 n s a u) (text rest : List T) → u ≡ text ++ rest → (m : ℕ) (w : List T) (b : B) (k other : List T) → both m w b → sees e2 k ≡ false → peek other ≡ peek rest → w ++ k ≡ (took.text ++ text) ++ other → Behind m took.text a w b k (text ++ other)
   behind s u a took text rest u-is m w b k other t apart same e =
       let whole = first_whole m w b k (took.text ++ (text ++ other)) t (e ∙ append_assoc took.text text other) in
@@ -118,6 +121,7 @@ module _ {T A B : Type 0} (opens : T → Bool) (p : Langs T A) (q : A → Langs 
         begins = begins_first d.depth (x.text ++ (d.head ∷ [])) (λ a. has a d.depth d.more) d.begins;
       }
 
+  -- behind a first part that was taken the second decides
   exact_second : (s u : List T) (a : A) (out : Outcome T B) → Grows p → Took p e1 n s a u → Exact opens (q a) e2 n u out → Exact opens both e2 n s out
   exact_second s u a (Ok y) grows x exact = took_both s u y.1 a y.0 x exact
   exact_second s u a (Err e) grows x exact = stopped_second s u a e grows x exact
@@ -127,6 +131,7 @@ module _ {T A B : Type 0} (opens : T → Bool) (p : Langs T A) (q : A → Langs 
   exact_then s Q (Ok x) grows has exact next = exact_second s x.1 x.0 (Q x.0 x.1) grows exact (next x.0 x.1 refl)
   exact_then s Q (Err e) grows has exact next = stopped_first s e has (le_refl n) exact
 
+  -- a sequence grows as its parts do
   grows_both : Grows p → ((a : A) → Grows (q a)) → Grows both
   grows_both first second m k w b le t = record {
     front = t.front;
@@ -137,6 +142,7 @@ module _ {T A B : Type 0} (opens : T → Bool) (p : Langs T A) (q : A → Langs 
     whole = t.whole;
   }
 
+  -- a sequence has a text if its parts have
   has_both : (m : ℕ) → Has p m → ((a : A) → Has (q a) m) → Has both m
   has_both m x y =
       let h = y x.value in

@@ -3,21 +3,24 @@ use Rattle.std.proofs.Common.{◌≡◌, Bool, true, false, ◌||◌, refl, ap, 
 use Rattle.formal_grammar.specs.Exact.{none, either, Within, Apart}
 use Rattle.formal_grammar.proofs.Contexts.{both_ways}
 
--- A set lies inside itself, and the empty set inside each.
+-- A set lies inside itself.
 pub within_same : {T : Type 0} (f : T → Bool) → Within f f
 within_same f t outside = outside
 
+-- The empty set lies inside each.
 pub within_none : {T : Type 0} (f : T → Bool) → Within none f
 within_none f t outside = refl
 
+-- where neither test passes
 neither : (a b : Bool) → (a || b) ≡ false → (a ≡ false) × (b ≡ false)
 neither true b e = absurd (both_ways refl e)
 neither false b e = (refl, e)
 
--- Each of two sets lies inside both together.
+-- The first of two sets lies inside both together.
 pub within_left : {T : Type 0} (f g : T → Bool) → Within f (either f g)
 within_left f g t outside = (neither (f t) (g t) outside).0
 
+-- The second of two sets lies inside both together.
 pub within_right : {T : Type 0} (f g : T → Bool) → Within g (either f g)
 within_right f g t outside = (neither (f t) (g t) outside).1
 

@@ -1,6 +1,6 @@
 -- One token, or none.
 use Rattle.std.proofs.Common.{◌≡◌, ℕ, Bool, true, false, List, [], ◌∷◌, Option, Some, None, refl, sym, ap, ◌∙◌}
-use Rattle.formal_grammar.specs.Lang.{gives, shown, the}
+use Rattle.formal_grammar.specs.Lang.{gives, shown, token, the}
 use Rattle.formal_grammar.specs.Parse.{pure, accepted, accept, this}
 use Rattle.formal_grammar.specs.Exact.{Langs, none, Begins, Exact, IsRule}
 use Rattle.formal_grammar.proofs.Contexts.{peek_first, some_is, not_none}
@@ -15,13 +15,16 @@ rule_gives a ext n = record {
 }
 
 module _ {T A : Type 0} (opens : T → Bool) (view : T → Option A) (t0 : T) (a0 : A) (shows : view t0 ≡ Some a0) (n : ℕ) where
+  -- the language of one token
   one : Langs T A
   one m = shown view
 
+  -- no token begins it
   begins_none : Begins one n []
   unfolding one
   begins_none = record { more = t0 ∷ []; value = a0; text = (t0, refl, shows) }
 
+  -- the outcome at a first token is exact
   accepted_exact : (t : T) (s : List T) (o : Option A) → view t ≡ o → Exact opens one none n (t ∷ s) (accepted o s (t ∷ s))
   unfolding one
   accepted_exact t s (Some a) e = record {
@@ -43,6 +46,7 @@ module _ {T A : Type 0} (opens : T → Bool) (view : T → Option A) (t0 : T) (a
         not_none (sym u.2 ∙ ap view same_token ∙ e);
   }
 
+  -- the outcome is exact everywhere
   accept_exact : (s : List T) → Exact opens one none n s (accept view s)
   unfolding one
   accept_exact [] = record {
@@ -64,6 +68,15 @@ rule_shown {opens = opens} view t0 a0 shows n = record {
   exact = accept_exact opens view t0 a0 shows n;
 }
 
+-- The one token that is made of a value, where the view takes it apart again.
+pub rule_token : {T A : Type 0} {opens : T → Bool} (view : T → Option A) (make : A → T) → ((a : A) → view (make a) ≡ Some a) → ((t : T) (a : A) → view t ≡ Some a → t ≡ make a) → (a0 : A) (n : ℕ) → IsRule opens (λ m. token make) (accept view) none n
+rule_token {T = T} view make shows only a0 n =
+    rule_same (λ m. token make)
+    (λ m w a u. u.1 ∙ ap (λ (z : T). z ∷ []) (only u.0 a u.2))
+    (λ m w a e. (make a, e, shows a))
+    (rule_shown view (make a0) a0 (shows a0) n)
+
+-- what a test shows passes it
 passed : {T : Type 0} (is : T → Bool) (t : T) (b : Bool) (a : Unit {0}) → is t ≡ b → this is t ≡ Some a → is t ≡ true
 passed is t true a e shows = e
 passed is t false a e shows = absurd (not_none (sym shows ∙ rw e refl))

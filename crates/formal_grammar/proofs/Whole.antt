@@ -14,12 +14,15 @@ record Shares {T : Type 0} (text rest w : List T) : Type 0 where
   whole : w ≡ text ++ other
   same : peek other ≡ peek rest
 
+-- equal lists have equal parts
 heads : {T : Type 0} {x y : T} {xs ys : List T} → ◌≡◌ {A = List T} (x ∷ xs) (y ∷ ys) → (x ≡ y) × (xs ≡ ys)
 heads e = (cc, cc)
 
+-- a list with an element is not empty
 nil_cons : {T : Type 0} {x : T} {xs : List T} → ◌≡◌ {A = List T} [] (x ∷ xs) → ⊥
 nil_cons e = cc
 
+-- what agrees one token past the text goes on as it does
 shares : {T : Type 0} (text rest w : List T) → take (suc (length text)) w ≡ take (suc (length text)) (text ++ rest) → Shares text rest w
 shares [] [] [] e = record { other = []; whole = refl; same = refl }
 shares [] [] (y ∷ w) e = absurd (nil_cons (sym e))
@@ -31,6 +34,7 @@ shares (x ∷ text) rest (y ∷ w) e =
     let r = shares text rest w h.1 in
     record { other = r.other; whole = ap (λ z. z ∷ w) h.0 ∙ ap (λ z. x ∷ z) r.whole; same = r.same }
 
+-- the token behind a text stands at its length
 get_behind : {T : Type 0} (text : List T) (t : T) (tail : List T) → slice_get (text ++ t ∷ tail) (length text) ≡ Some t
 get_behind [] t tail = refl
 get_behind (x ∷ text) t tail = get_behind text t tail
@@ -45,15 +49,17 @@ module _ {T A : Type 0} (opens : T → Bool) (L : Langs T A) (ext : T → Bool) 
     same = take_at text b.more (length text) refl ∙ sym (ap (take (length text)) whole ∙ take_at text rest (length text) refl);
   }
 
-  -- and what never agrees agrees with no text
+  -- what never agrees agrees with no text
   agrees_never : (m : ℕ) (text rest s : List T) → s ≡ text ++ rest → Never L ext m text rest → Agrees L m (suc (length text)) s → ⊥
   agrees_never m text rest s whole never x =
       let h = shares text rest x.text (x.same ∙ ap (take (suc (length text))) whole) in
       never x.text x.value [] h.other x.spells refl h.same (append-nil x.text ∙ h.whole)
 
+  -- the length of two parts
   length_whole : (text rest s : List T) → s ≡ text ++ rest → length s ≡ length text + length rest
   length_whole text rest s whole = ap length whole ∙ length-append text rest
 
+  -- what was taken to the end is the one value
   judged_value : (s : List T) (a : A) → Took L ext n s a [] → IsOnly L n s a
   judged_value s a x =
       let all : s ≡ x.text = x.whole ∙ append-nil x.text in
@@ -62,6 +68,7 @@ module _ {T A : Type 0} (opens : T → Bool) (L : Langs T A) (ext : T → Bool) 
         only = λ m b t. (x.only m s b [] [] t refl refl (append-nil s ∙ x.whole)).1;
       }
 
+  -- a text begins itself
   begins_whole : (text : List T) (a : A) → L n text a → Begins L n text
   begins_whole text a t = record { more = []; value = a; text = subst (λ (z : List T). L n z a) (sym (append-nil text)) t }
 
@@ -73,6 +80,7 @@ module _ {T A : Type 0} (opens : T → Bool) (L : Langs T A) (ext : T → Bool) 
       let nothing : h.other ≡ [] = append_cancel_left x.text h.other [] (sym h.whole ∙ one.0 ∙ sym (append-nil x.text)) in
       not_none (sym h.same ∙ ap peek nothing)
 
+  -- what was taken with more behind it is a fault there
   judged_more : (s : List T) (a : A) (t : T) (rest : List T) → Took L ext n s a (t ∷ rest) → Judges opens L n s (Err (Syntax, length (t ∷ rest)))
   judged_more s a t rest x =
       let len = length_whole x.text (t ∷ rest) s x.whole in
@@ -84,6 +92,7 @@ module _ {T A : Type 0} (opens : T → Bool) (L : Langs T A) (ext : T → Bool) 
       } in
       (subst (λ (k : ℕ). IsSyntaxFault L n s k) at fault, omega (arith, len))
 
+  -- what was refused is a fault there
   judged_stop : (s : List T) (e : Why × ℕ) → Stopped opens L ext n s e.0 e.1 → Judges opens L n s (Err e)
   judged_stop s (Syntax, left) x =
       let len = length_whole x.text x.rest s x.whole in
@@ -113,11 +122,13 @@ module _ {T A : Type 0} (opens : T → Bool) (L : Langs T A) (ext : T → Bool) 
       } in
       (subst (λ (k : ℕ). IsDeepFault opens L n s k) at fault, omega (arith, len, x.at))
 
+  -- each outcome is judged
   judged : (s : List T) (out : Outcome T A) → Exact opens L ext n s out → Judges opens L n s (ended out)
   judged s (Ok (a, [])) x = judged_value s a x
   judged s (Ok (a, t ∷ rest)) x = judged_more s a t rest x
   judged s (Err e) x = judged_stop s e x
 
+  -- the outcome where a value is spelled
   read : (s : List T) (a : A) → L n s a → (out : Outcome T A) → Exact opens L ext n s out → ended out ≡ Ok a
   read s a t (Ok (b, [])) x = ap Ok (sym (x.only n s a [] [] t refl refl (append-nil s ∙ x.whole)).1)
   read s a t (Ok (b, u ∷ rest)) x =
@@ -134,6 +145,7 @@ judges {opens = opens} {L = L} {ext = ext} {n = n} {P = P} x s = judged opens L 
 pub is_read : {T A : Type 0} {opens : T → Bool} {L : Langs T A} {ext : T → Bool} {n : ℕ} {P : Parser T A} → IsRule opens L P ext n → (s : List T) (a : A) → L n s a → all_of P s ≡ Ok a
 is_read {opens = opens} {L = L} {ext = ext} {n = n} {P = P} x s a t = read opens L ext n s a t (P s) (x.exact s)
 
+-- a result holds one value
 value_is : {A E : Type 0} {a b : A} → ◌≡◌ {A = Result A E} (Ok a) (Ok b) → a ≡ b
 value_is e = cc
 
@@ -155,6 +167,7 @@ fault_by {opens = opens} {L = L} {n = n} rule s why left e = subst (λ r. Judges
 pub complete_by : {T A : Type 0} {opens : T → Bool} {L : Langs T A} {ext : T → Bool} {n : ℕ} {P : Parser T A} → IsRule opens L P ext n → (s : List T) (a b : A) → all_of P s ≡ Ok a → L n s b → a ≡ b
 complete_by rule s a b e t = value_is (sym e ∙ is_read rule s b t)
 
+-- a value is no refusal
 ok_is_not_err : {A E : Type 0} {a : A} {e : E} → ◌≡◌ {A = Result A E} (Ok a) (Err e) → ⊥
 ok_is_not_err e = cc
 
@@ -162,10 +175,11 @@ ok_is_not_err e = cc
 pub not_refused_by : {T A : Type 0} {opens : T → Bool} {L : Langs T A} {ext : T → Bool} {n : ℕ} {P : Parser T A} → IsRule opens L P ext n → (s : List T) (why : Why) (left : ℕ) (b : A) → all_of P s ≡ Err (why, left) → L n s b → ⊥
 not_refused_by rule s why left b e t = ok_is_not_err (sym (is_read rule s b t) ∙ e)
 
--- A refusal by syntax is a fault at its place, and so is one by depth.
+-- A refusal by syntax is a fault of syntax at its place.
 pub syntax_by : {T A : Type 0} {opens : T → Bool} {L : Langs T A} {ext : T → Bool} {n : ℕ} {P : Parser T A} → IsRule opens L P ext n → (s : List T) (left at : ℕ) → all_of P s ≡ Err (Syntax, left) → length s - left ≡ at → IsSyntaxFault L n s at
 syntax_by {L = L} {n = n} rule s left at e place = subst (λ k. IsSyntaxFault L n s k) place (fault_by rule s Syntax left e).0
 
+-- A refusal by depth is a fault of depth at its place.
 pub deep_by : {T A : Type 0} {opens : T → Bool} {L : Langs T A} {ext : T → Bool} {n : ℕ} {P : Parser T A} → IsRule opens L P ext n → (s : List T) (left at : ℕ) → all_of P s ≡ Err (Deep, left) → length s - left ≡ at → IsDeepFault opens L n s at
 deep_by {opens = opens} {L = L} {n = n} rule s left at e place = subst (λ k. IsDeepFault opens L n s k) place (fault_by rule s Deep left e).0
 

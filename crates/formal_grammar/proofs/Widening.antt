@@ -6,6 +6,7 @@ use Rattle.formal_grammar.specs.Exact.{Langs, Within, Never, Begins, Took, Deepe
 use Rattle.formal_grammar.proofs.Contexts.{peek-append, sees-within, bad_as}
 
 module _ {T A : Type 0} (opens : T → Bool) (L M : Langs T A) (e1 e2 : T → Bool) (n : ℕ) (within : Within e1 e2) (to : (m : ℕ) (w : List T) (a : A) → L m w a → M m w a) (s : List T) (from : (m : ℕ) (w : List T) (a : A) (k : List T) → M m w a → sees e2 k ≡ false → peek (w ++ k) ≡ peek s → L m w a) where
+  -- what was taken of the smaller language
   took_part : (a : A) (rest : List T) → Took L e1 n s a rest → Took M e2 n s a rest
   took_part a rest x = record {
     text = x.text;
@@ -14,6 +15,7 @@ module _ {T A : Type 0} (opens : T → Bool) (L M : Langs T A) (e1 e2 : T → Bo
     only = λ m w b k other t apart same e. x.only m w b k other (from m w b k t apart (ap peek e ∙ peek-append x.text other rest same ∙ ap peek (sym x.whole))) (sees-within within k apart) same e;
   }
 
+  -- what was refused of the smaller language
   stopped_part : (e : Why × ℕ) → Stopped opens L e1 n s e.0 e.1 → Stopped opens M e2 n s e.0 e.1
   stopped_part e x = record {
     text = x.text;

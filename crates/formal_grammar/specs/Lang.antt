@@ -31,6 +31,10 @@ gives x w a = (w ≡ []) × (a ≡ x)
 abbrev pub shown : {T A : Type 0} → (T → Option A) → Lang T A
 shown {T = T} view w a = (t : T) × (w ≡ t ∷ []) × (view t ≡ Some a)
 
+-- The one token that is made of the value.
+abbrev pub token : {T A : Type 0} → (A → T) → Lang T A
+token make w a = w ≡ make a ∷ []
+
 -- This token.
 abbrev pub the : {T : Type 0} → T → Lang T (Unit {0})
 the t w a = w ≡ t ∷ []
