@@ -1,6 +1,6 @@
 -- Where each part has more texts, the whole has. Of use where a language calls itself, and its growth is a recursion.
 use Rattle.std.proofs.Common.{ℕ, List, [], ◌∷◌, inl, inr, refl}
-use Rattle.formal_grammar.specs.Lang.{Lang, ◌>>=◌, ◌>>◌, ◌or◌, the, optional, many, listed}
+use Rattle.formal_grammar.specs.Lang.{Lang, ◌>>=◌, ◌>>◌, ◌or◌, optional, many, listed}
 use Rattle.formal_grammar.specs.Exact.{Langs, Has, Begins}
 
 -- Each text of the one language is one of the other.
@@ -26,13 +26,13 @@ among_many more w [] t = t
 among_many more w (a ∷ later) t = (t.0, t.1, more t.0 a t.2, among_many more t.1 later t.3, t.4)
 
 -- Lists of more texts are more.
-pub among_listed : {T A : Type 0} (separator : T) {p p' : Lang T A} → Among p p' → Among (listed separator p) (listed separator p')
-among_listed separator {p = p} {p' = p'} more = among_then more (λ a. among_then (among_many (among_then {p = the separator} {q = λ _. p} {q' = λ _. p'} (λ w u t. t) (λ _. more))) (λ later w b t. t))
+pub among_listed : {T A : Type 0} (separator : Lang T (Unit {0})) {p p' : Lang T A} → Among p p' → Among (listed separator p) (listed separator p')
+among_listed separator {p = p} {p' = p'} more = among_then more (λ a. among_then (among_many (among_then {p = separator} {q = λ _. p} {q' = λ _. p'} (λ w u t. t) (λ _. more))) (λ later w b t. t))
 
--- A token begins what stands behind it, if there is such a text.
-pub begins_the : {T A : Type 0} (t : T) {L : Langs T A} {m : ℕ} → Has L m → Begins (λ k. the t >> L k) m (t ∷ [])
-begins_the t h = record {
+-- A token that is a text begins what stands behind it, if there is such a text.
+pub begins_behind : {T A B : Type 0} (first : Lang T B) (t : T) (b : B) {L : Langs T A} {m : ℕ} → first (t ∷ []) b → Has L m → Begins (λ k. first >> L k) m (t ∷ [])
+begins_behind first t b one h = record {
   more = h.text;
   value = h.value;
-  text = record { front = t ∷ []; back = h.text; value = tt; first = refl; second = h.spells; whole = refl };
+  text = record { front = t ∷ []; back = h.text; value = b; first = one; second = h.spells; whole = refl };
 }

@@ -1,6 +1,6 @@
 -- What stands first where a text stands: the conditions at each join of two parts.
 use Rattle.std.proofs.Common.{◌≡◌, ℕ, zero, suc, Bool, true, false, List, [], ◌∷◌, ◌++◌, Option, Some, None, ◌⊎◌, inl, inr, refl, ap, ◌∙◌, append_assoc}
-use Rattle.formal_grammar.specs.Lang.{◌>>=◌, ◌or◌, gives, shown, token, the, optional, many, listed}
+use Rattle.formal_grammar.specs.Lang.{Lang, ◌>>=◌, ◌or◌, gives, shown, token, the, one_of, optional, many, listed}
 use Rattle.formal_grammar.specs.Parse.{sees}
 use Rattle.formal_grammar.specs.Exact.{Langs, none, Within, Apart, StartsIn, Starts, Joins, nested}
 use Rattle.formal_grammar.proofs.Contexts.{sees-none, sees-within, both_ways}
@@ -40,6 +40,10 @@ in_larger : (small large : Bool) → (large ≡ false → small ≡ false) → s
 in_larger small true within passes = refl
 in_larger small false within passes = absurd (both_ways passes (within refl))
 
+-- One token that passes a test begins with such a token.
+pub starts_one_of : {T : Type 0} {f : T → Bool} → Starts f (λ m. one_of f)
+starts_one_of = record { first = λ m w a u. record { head = u.0; tail = []; cons = u.1; passes = u.2 } }
+
 -- What begins with a token of a set begins with one of each larger set.
 pub starts_wider : {T A : Type 0} {f g : T → Bool} {L : Langs T A} → Within f g → Starts f L → Starts g L
 starts_wider {f = f} {g = g} within starts = record {
@@ -53,7 +57,7 @@ pub starts_among : {T A : Type 0} {f : T → Bool} {L M : Langs T A} → ((m : �
 starts_among among starts = record { first = λ m w a t. starts.first m w a (among m w a t) }
 
 -- A list begins as its parts do.
-pub starts_listed : {T A : Type 0} {f : T → Bool} {t : T} {p : Langs T A} → Starts f p → Starts f (λ m. listed t (p m))
+pub starts_listed : {T A : Type 0} {f : T → Bool} {separator : Lang T (Unit {0})} {p : Langs T A} → Starts f p → Starts f (λ m. listed separator (p m))
 starts_listed starts = record { first = λ m w b x. starts_first w x.front x.back x.whole (starts.first m x.front x.value x.first) }
 
 -- Nested texts begin as all do.

@@ -1,7 +1,7 @@
 -- One part or the other, where both begin alike and the second token decides.
 use Rattle.std.proofs.Common.{◌≡◌, ℕ, Bool, true, false, List, [], ◌∷◌, ◌++◌, Ok, Err, if◌then◌else◌, inl, inr, refl, sym, ap, subst, ◌∙◌, append-nil}
 use Rattle.formal_grammar.specs.declared.stop.Why.{Why}
-use Rattle.formal_grammar.specs.Lang.{◌>>◌, ◌or◌, the}
+use Rattle.formal_grammar.specs.Lang.{Lang, ◌>>◌, ◌or◌}
 use Rattle.formal_grammar.specs.Parse.{Outcome, Parser, peek, sees, rest_of, when_two}
 use Rattle.formal_grammar.specs.Exact.{Langs, Never, Begins, Took, Deeper, Stopped, Exact, IsRule, Starts, Joins, Seconds}
 use Rattle.formal_grammar.proofs.Contexts.{peek-append, sees-peek, starts-sees, both_ways, bad_as, never_at}
@@ -96,14 +96,18 @@ rule_two {opens = opens} {p = p} {q = q} {P = P} {Q = Q} {ext = ext} {n = n} g h
   exact = λ s. two_chosen opens p q ext g h n starts_p starts_q second_p second_q heads_p heads_q s (sees g s) (P s) (Q s) refl (x.exact s) (y.exact s);
 }
 
--- Behind a token stands what begins with a token that passes.
-pub seconds_starts : {T A : Type 0} {h ext : T → Bool} {t : T} {q : Langs T A} → Starts h q → Seconds h true (λ m. the t >> q m) ext
-seconds_starts {h = h} starts = record {
-  second = λ m w a k x _. ap (λ z. sees h (rest_of (z ++ k))) (x.whole ∙ ap (λ z. z ++ x.back) x.first) ∙ starts-sees x.back k (starts.first m x.back a x.second);
+-- the tokens behind one token
+behind_one : {T B : Type 0} {first : Lang T B} → ((w : List T) (b : B) → first w b → (t : T) × (w ≡ t ∷ [])) → (w front back k : List T) (b : B) → first front b → w ≡ front ++ back → rest_of (w ++ k) ≡ back ++ k
+behind_one single w front back k b one whole = ap (λ z. rest_of (z ++ k)) (whole ∙ ap (λ z. z ++ back) (single front b one).1)
+
+-- Behind one token stands what begins with a token that passes.
+pub seconds_starts : {T A B : Type 0} {h ext : T → Bool} {first : Lang T B} {q : Langs T A} → ((w : List T) (b : B) → first w b → (t : T) × (w ≡ t ∷ [])) → Starts h q → Seconds h true (λ m. first >> q m) ext
+seconds_starts {h = h} single starts = record {
+  second = λ m w a k x _. ap (sees h) (behind_one single w x.front x.back k x.value x.first x.whole) ∙ starts-sees x.back k (starts.first m x.back a x.second);
 }
 
--- Behind a token stands what doesn't begin so, with what follows.
-pub seconds_joins : {T A : Type 0} {h ext : T → Bool} {t : T} {q : Langs T A} → Joins h q ext → Seconds h false (λ m. the t >> q m) ext
-seconds_joins {h = h} joins = record {
-  second = λ m w a k x apart. ap (λ z. sees h (rest_of (z ++ k))) (x.whole ∙ ap (λ z. z ++ x.back) x.first) ∙ joins.clear m x.back a k x.second apart;
+-- Behind one token stands what doesn't begin so, with what follows.
+pub seconds_joins : {T A B : Type 0} {h ext : T → Bool} {first : Lang T B} {q : Langs T A} → ((w : List T) (b : B) → first w b → (t : T) × (w ≡ t ∷ [])) → Joins h q ext → Seconds h false (λ m. first >> q m) ext
+seconds_joins {h = h} single joins = record {
+  second = λ m w a k x apart. ap (sees h) (behind_one single w x.front x.back k x.value x.first x.whole) ∙ joins.clear m x.back a k x.second apart;
 }

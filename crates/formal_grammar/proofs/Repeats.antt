@@ -1,13 +1,13 @@
 -- Any number of parts, and lists with a separator.
 use Rattle.std.proofs.Common.{◌≡◌, ℕ, zero, suc, ◌+◌, ◌<◌, ◌≤◌, Bool, true, false, List, [], ◌∷◌, ◌++◌, length, Ok, if◌then◌else◌, refl, sym, ap, subst, ◌∙◌, append-nil, arith, length-append, le_refl}
-use Rattle.formal_grammar.specs.Lang.{◌>>=◌, ◌>>◌, gives, the, many, listed}
-use Rattle.formal_grammar.specs.Parse.{Outcome, Parser, and_then, pure, peek, sees, turns, repeat, separated}
-use Rattle.formal_grammar.specs.Exact.{Langs, Within, Apart, Grows, Took, Exact, IsRule, Starts}
+use Rattle.formal_grammar.specs.Lang.{Lang, ◌>>=◌, ◌>>◌, gives, many, listed}
+use Rattle.formal_grammar.specs.Parse.{Outcome, Parser, and_then, pure, accept, this, peek, sees, turns, repeat, separated}
+use Rattle.formal_grammar.specs.Exact.{none, Langs, Within, Apart, Grows, Took, Exact, IsRule, Starts}
 use Rattle.formal_grammar.proofs.Contexts.{sees-peek, sees-within, starts-sees, both_ways}
 use Rattle.formal_grammar.proofs.Widening.{exact_part}
 use Rattle.formal_grammar.proofs.Sequence.{exact_then, rule_then, rule_seq}
-use Rattle.formal_grammar.proofs.Single.{rule_gives, rule_the}
-use Rattle.formal_grammar.proofs.Joins.{starts_first, starts_the, starts_then, joins_gives, joins_then, joins_many}
+use Rattle.formal_grammar.proofs.Single.{rule_gives}
+use Rattle.formal_grammar.proofs.Joins.{starts_first, starts_then, joins_gives, joins_then, joins_many}
 
 -- A text that isn't empty leaves fewer tokens.
 pub took_less : {T A : Type 0} {L : Langs T A} {f ext : T → Bool} {n : ℕ} {s : List T} {a : A} {u : List T} → Starts f L → Took L ext n s a u → length u < length s
@@ -103,13 +103,12 @@ rule_many {opens = opens} {p = p} {P = P} {e1 = e1} {n = n} f ext starts apart f
   exact = λ s. exact_turns p opens f e1 ext n starts apart f-within e1-within P x (length s) s (le_refl (length s));
 }
 
--- One part or more, with the token t between them, the only one that passes the test.
-pub rule_listed : {T A : Type 0} {opens : T → Bool} {p : Langs T A} {P : Parser T A} {e1 : T → Bool} {n : ℕ} (is : T → Bool) (t : T) (ext : T → Bool) → is t ≡ true → ((u : T) → is u ≡ true → u ≡ t) → e1 t ≡ false → Within is ext → Within e1 ext → IsRule opens p P e1 n → IsRule opens (λ m. listed t (p m)) (separated is P) ext n
-rule_listed {opens = opens} {p = p} {P = P} {e1 = e1} {n = n} is t ext passes only apart is-within e1-within x =
-    let item = rule_seq {q = λ _. p} (rule_the is t passes only n) (λ _. x) in
-    let item_starts : Starts is (λ m. the t >> p m) = starts_then {q = λ _. p} (starts_the passes) in
-    let is-apart : Apart is e1 = λ u h. ap e1 (only u h) ∙ apart in
-    rule_then {q = λ a m. many (the t >> p m) >>= λ later. gives (a ∷ later)}
-    (λ a. joins_then (joins_many is-apart item_starts e1-within) (λ later. joins_gives ext (a ∷ later) ext (λ u h. h)))
+-- One part or more, with a separator between them that begins with a token that passes the test.
+pub rule_listed : {T A : Type 0} {opens : T → Bool} {separator : Lang T (Unit {0})} {p : Langs T A} {P : Parser T A} {e1 : T → Bool} {n : ℕ} (is ext : T → Bool) → Starts is (λ m. separator) → Apart is e1 → Within is ext → Within e1 ext → IsRule opens (λ m. separator) (accept (this is)) none n → IsRule opens p P e1 n → IsRule opens (λ m. listed separator (p m)) (separated is P) ext n
+rule_listed {separator = separator} {p = p} {P = P} {e1 = e1} {n = n} is ext starts apart is-within e1-within between x =
+    let item = rule_seq {q = λ _. p} between (λ _. x) in
+    let item_starts : Starts is (λ m. separator >> p m) = starts_then {q = λ _. p} starts in
+    rule_then {q = λ a m. many (separator >> p m) >>= λ later. gives (a ∷ later)}
+    (λ a. joins_then (joins_many apart item_starts e1-within) (λ later. joins_gives ext (a ∷ later) ext (λ u h. h)))
     x
-    (λ a. rule_then {q = λ later m. gives (a ∷ later)} (λ later. joins_gives ext (a ∷ later) ext (λ u h. h)) (rule_many is ext item_starts is-apart is-within e1-within item) (λ later. rule_gives (a ∷ later) ext n))
+    (λ a. rule_then {q = λ later m. gives (a ∷ later)} (λ later. joins_gives ext (a ∷ later) ext (λ u h. h)) (rule_many is ext item_starts apart is-within e1-within item) (λ later. rule_gives (a ∷ later) ext n))

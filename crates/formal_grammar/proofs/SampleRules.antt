@@ -22,7 +22,7 @@ use Rattle.formal_grammar.proofs.Choice.{rule_when, rule_optional}
 use Rattle.formal_grammar.proofs.Repeats.{rule_listed}
 use Rattle.formal_grammar.proofs.Nesting.{grows_nested, rule_nested, rule_floor}
 use Rattle.formal_grammar.proofs.Widening.{rule_same}
-use Rattle.formal_grammar.proofs.Growth.{Among, among_then, among_or, among_listed, begins_the}
+use Rattle.formal_grammar.proofs.Growth.{Among, among_then, among_or, among_listed, begins_behind}
 use Rattle.formal_grammar.proofs.Loops.{Shrinks, shrinks}
 use Rattle.formal_grammar.proofs.Whole.{one_value}
 
@@ -70,7 +70,7 @@ unfolding read.sum
 sum_rule {n = n} x =
     rule_then {q = λ items m. mark >>= λ marked. gives (expr.Sum items marked)}
     (λ items. joins_then joins_mark (λ marked. joins_gives goes_on (expr.Sum items marked) goes_on (within_same goes_on)))
-    (rule_listed (is Plus) (token.Sign Plus) (is Plus) (passes Plus) (only Plus) refl (within_same (is Plus)) (within_none (is Plus)) x)
+    (rule_listed (is Plus) (is Plus) (starts_the (passes Plus)) (λ t _. refl) (within_same (is Plus)) (within_none (is Plus)) (the_rule Plus n) x)
     (λ items. rule_then {q = λ marked m. gives (expr.Sum items marked)} (λ marked. joins_gives goes_on (expr.Sum items marked) goes_on (within_same goes_on)) (mark_rule n) (λ marked. rule_gives (expr.Sum items marked) goes_on n))
 
 -- what stands behind an opening bracket
@@ -92,7 +92,7 @@ bracketed_rule {n = n} x = rule_seq {q = λ _ m. _} (the_rule Open n) (λ _. ins
 
 -- more items make more sums
 among_sum : {p q : Lang Token Expr} → Among p q → Among (sum_of p) (sum_of q)
-among_sum more = among_then (among_listed (token.Sign Plus) more) (λ items w e t. t)
+among_sum more = among_then (among_listed (the (token.Sign Plus)) more) (λ items w e t. t)
 
 -- more sums make more in brackets
 among_bracketed : {p q : Lang Token Expr} → Among p q → Among (bracketed p) (bracketed q)
@@ -159,7 +159,7 @@ bracket_opens : (t : Token) → is Open t ≡ true → Begins opened 1 (t ∷ []
 unfolding item
 bracket_opens t e =
     let h = (inside_rule (sum_rule (number_rule 0))).has 0 (omega arith) in
-    let b = begins_the (token.Sign Open) {L = λ m. inside (sum_of number)} {m = 0} h in
+    let b = begins_behind (the (token.Sign Open)) (token.Sign Open) tt refl h in
     record { more = b.more; value = b.value; text = rw (only Open t e) b.text }
 
 -- number | "(" sum ")", with n brackets still to open

@@ -1,6 +1,6 @@
 -- One token, or none.
 use Rattle.std.proofs.Common.{◌≡◌, ℕ, Bool, true, false, List, [], ◌∷◌, Option, Some, None, refl, sym, ap, ◌∙◌}
-use Rattle.formal_grammar.specs.Lang.{gives, shown, token, the}
+use Rattle.formal_grammar.specs.Lang.{gives, shown, token, the, one_of}
 use Rattle.formal_grammar.specs.Parse.{pure, accepted, accept, this}
 use Rattle.formal_grammar.specs.Exact.{Langs, none, Begins, Exact, IsRule}
 use Rattle.formal_grammar.proofs.Contexts.{peek_first, some_is, not_none}
@@ -80,6 +80,17 @@ rule_token {T = T} view make shows only a0 n =
 passed : {T : Type 0} (is : T → Bool) (t : T) (b : Bool) (a : Unit {0}) → is t ≡ b → this is t ≡ Some a → is t ≡ true
 passed is t true a e shows = e
 passed is t false a e shows = absurd (not_none (sym shows ∙ rw e refl))
+
+this_passes : {T : Type 0} (f : T → Bool) (t : T) → f t ≡ true → this f t ≡ Some tt
+this_passes f t passes = rw passes refl
+
+-- One token that passes the test; t0 is one that does.
+pub rule_one_of : {T : Type 0} {opens : T → Bool} (f : T → Bool) (t0 : T) → f t0 ≡ true → (n : ℕ) → IsRule opens (λ m. one_of f) (accept (this f)) none n
+rule_one_of f t0 passes n =
+    rule_same (λ m. one_of f)
+    (λ m w a u. (u.0, u.1, passed f u.0 (f u.0) a refl u.2))
+    (λ m w a u. (u.0, u.1, this_passes f u.0 u.2))
+    (rule_shown (this f) t0 tt (this_passes f t0 passes) n)
 
 -- This token, the only one that passes the test.
 pub rule_the : {T : Type 0} {opens : T → Bool} (is : T → Bool) (t0 : T) → is t0 ≡ true → ((t : T) → is t ≡ true → t ≡ t0) → (n : ℕ) → IsRule opens (λ m. the t0) (accept (this is)) none n

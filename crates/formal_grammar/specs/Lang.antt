@@ -1,5 +1,5 @@
 -- Grammars as languages: which tokens spell which value. A line of a grammar is a `do` block of these words.
-use Rattle.std.specs.Prelude.{◌≡◌, List, [], ◌∷◌, ◌++◌, Option, Some, None, ◌⊎◌}
+use Rattle.std.specs.Prelude.{◌≡◌, Bool, true, List, [], ◌∷◌, ◌++◌, Option, Some, None, ◌⊎◌}
 
 -- The lists of tokens that spell a value.
 abbrev pub Lang : Type 0 → Type 0 → Type 1
@@ -39,6 +39,10 @@ token make w a = w ≡ make a ∷ []
 abbrev pub the : {T : Type 0} → T → Lang T (Unit {0})
 the t w a = w ≡ t ∷ []
 
+-- One token that passes a test.
+abbrev pub one_of : {T : Type 0} → (T → Bool) → Lang T (Unit {0})
+one_of {T = T} f w a = (t : T) × (w ≡ t ∷ []) × (f t ≡ true)
+
 -- A text of the one language or of the other.
 infixl 9 ◌or◌
 abbrev pub ◌or◌ : {T A : Type 0} → Lang T A → Lang T A → Lang T A
@@ -53,6 +57,6 @@ abbrev pub many : {T A : Type 0} → Lang T A → Lang T (List A)
 many p w [] = w ≡ []
 many {T = T} p w (a ∷ later) = (u v : List T) × p u a × many p v later × (w ≡ u ++ v)
 
--- One text or more, with this token between them.
-abbrev pub listed : {T A : Type 0} → T → Lang T A → Lang T (List A)
-listed separator p = p >>= λ a. many (the separator >> p) >>= λ later. gives (a ∷ later)
+-- One text or more, with a separator between them.
+abbrev pub listed : {T A : Type 0} → Lang T (Unit {0}) → Lang T A → Lang T (List A)
+listed separator p = p >>= λ a. many (separator >> p) >>= λ later. gives (a ∷ later)

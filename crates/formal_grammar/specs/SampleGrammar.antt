@@ -27,7 +27,7 @@ mark = do
 -- item { "+" item } [ "!" ]
 abbrev pub sum_of : Lang Token Expr → Lang Token Expr
 sum_of item = do
-  items ← listed (token.Sign Plus) item
+  items ← listed (the (token.Sign Plus)) item
   marked ← mark
   gives (expr.Sum items marked)
 
