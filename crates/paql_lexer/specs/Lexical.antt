@@ -45,7 +45,8 @@ is_space byte = byte == 9 || byte == 10 || byte == 13 || byte == 32
 -- A space, or a comment: `--` and what stands on the line behind it.
 abbrev pub IsPiece : List ℕ → List ℕ → Type 0
 IsPiece piece rest = ((byte : ℕ) × IsTrue (is_space byte) × (piece ≡ byte ∷ []))
-    ⊎ ((line : List ℕ) × AllIn (in_run run.Line) line × (piece ≡ 45 ∷ (45 ∷ line)) × EndsRun (in_run run.Line) rest)
+    ⊎ ((line : List ℕ) × AllIn (in_run run.Line) line × (piece ≡ 45 ∷ (45 ∷ line))
+    × EndsRun (in_run run.Line) rest)
 
 -- The pieces follow one another, and no further one stands behind them.
 abbrev pub ArePieces : List (List ℕ) → List ℕ → Type 0
@@ -121,7 +122,8 @@ GoesOn byte rest len = (IsFalse (is_quote byte) × (len ≡ 1))
 
 -- The content and its closing quote stand first.
 abbrev pub ClosesBehind : List ℕ → List ℕ → Type 0
-ClosesBehind body content = (rest : List ℕ) × (body ≡ doubled content ++ 39 ∷ rest) × EndsRun is_quote rest
+ClosesBehind body content =
+    (rest : List ℕ) × (body ≡ doubled content ++ 39 ∷ rest) × EndsRun is_quote rest
 
 -- UTF-8 in single quotes, with each quote in it doubled.
 pub record IsText (kind : Kind) (word rest : List ℕ) : Type 0 where
@@ -141,8 +143,12 @@ short_sign byte =
 
 abbrev pub long_sign : ℕ → ℕ → Option Kind
 long_sign first second =
-    if first == 60 then (if second == 61 then Some kinds.LessOrEqual else (if second == 62 then Some kinds.NotEqual else None))
-    else (if second == 61 then (if first == 62 then Some kinds.GreaterOrEqual else (if first == 33 then Some kinds.NotEqual else None)) else None)
+    if first == 60 then
+    (if second == 61 then Some kinds.LessOrEqual
+    else (if second == 62 then Some kinds.NotEqual else None))
+    else (if second == 61 then
+    (if first == 62 then Some kinds.GreaterOrEqual
+    else (if first == 33 then Some kinds.NotEqual else None)) else None)
 
 -- The sign of two bytes at the front of a text.
 abbrev pub long_sign_at : List ℕ → Option Kind

@@ -33,9 +33,11 @@ HasFault text Memory = Unit {0}
 
 -- A text has at most one list of tokens.
 abbrev pub OneCut : Type 0
-OneCut = (text : List ℕ) (one other : List Token) → IsTokens text one → IsTokens text other → one ≡ other
+OneCut = (text : List ℕ) (one other : List Token)
+    → IsTokens text one → IsTokens text other → one ≡ other
 
 -- Where a text has a fault, it has no list of tokens, and no other fault.
 abbrev pub NoCut : Type 0
 NoCut = (text : List ℕ) (at : ℕ) → IsLexFault text at
-    → ((tokens : List Token) → ¬ IsTokens text tokens) × ((other : ℕ) → IsLexFault text other → at ≡ other)
+    → ((tokens : List Token) → ¬ IsTokens text tokens)
+    × ((other : ℕ) → IsLexFault text other → at ≡ other)

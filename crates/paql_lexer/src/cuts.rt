@@ -166,7 +166,8 @@ fn step_len(byte: u8, rest: &[u8]) -> usize
 /// How many bytes stand in front of the closing quote.
 fn content_len(body: &[u8]) -> Option<usize>
     ensures { MatchOption result ((content : List ℕ) → ¬ lexical.ClosesBehind body.now content)
-        (λ len. (content : List ℕ) × lexical.ClosesBehind body.now content × (length (lexical.doubled content) ≡ len)) }
+        (λ len. (content : List ℕ) × lexical.ClosesBehind body.now content
+        × (length (lexical.doubled content) ≡ len)) }
 {
     let mut at = 0;
     while at < body.len() {

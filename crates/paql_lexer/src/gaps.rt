@@ -1,6 +1,6 @@
 //! What stands between tokens: space and comments.
 ghost use Rattle.std.specs.Prelude.{◌≡◌, ℕ, ◌<◌, ◌++◌, ◌∷◌, List, length, MatchOption};
-ghost use Rattle.paql_lexer.specs.Lexical.{AllIn, EndsRun, IsPiece, IsGap, NoneAt, in_run, is_space as space_test};
+ghost use Rattle.paql_lexer.specs.Lexical as lexical;
 
 /// The bytes that a run goes on with.
 #[derive(Clone, Copy, Debug)]
@@ -13,7 +13,7 @@ pub(crate) enum Run {
 
 /// Whether a run goes on with the byte.
 fn is_in_run(run: Run, byte: u8) -> bool
-    ensures { result ≡ in_run run byte }
+    ensures { result ≡ lexical.in_run run byte }
 {
     match run {
         Run::Word => byte.is_ascii_alphanumeric() || byte == b'_',
@@ -24,8 +24,8 @@ fn is_in_run(run: Run, byte: u8) -> bool
 /// The run at the front of a text, and what stands behind it.
 pub(crate) fn split_run(run: Run, text: &[u8]) -> (&[u8], &[u8])
     ensures whole { text.now ≡ result.0.now ++ result.1.now }
-    ensures all { AllIn (in_run run) result.0.now }
-    ensures ends { EndsRun (in_run run) result.1.now }
+    ensures all { lexical.AllIn (lexical.in_run run) result.0.now }
+    ensures ends { lexical.EndsRun (lexical.in_run run) result.1.now }
 {
     for (at, byte) in text.iter().enumerate() {
         if !is_in_run(run, *byte) {
@@ -36,15 +36,16 @@ pub(crate) fn split_run(run: Run, text: &[u8]) -> (&[u8], &[u8])
 }
 
 fn is_space(byte: u8) -> bool
-    ensures { result ≡ space_test byte }
+    ensures { result ≡ lexical.is_space byte }
 {
     byte == b'\t' || byte == b'\n' || byte == b'\r' || byte == b' '
 }
 
 /// What stands behind a space, or behind the bytes of a comment, at the front of a text.
 fn skip_piece(text: &[u8]) -> Option<&[u8]>
-    ensures { MatchOption result (NoneAt IsPiece text.now)
-        (λ rest. (piece : List ℕ) × IsPiece piece rest.now × (text.now ≡ piece ++ rest.now)) }
+    ensures { MatchOption result (lexical.NoneAt lexical.IsPiece text.now)
+        (λ rest. (piece : List ℕ) × lexical.IsPiece piece rest.now
+        × (text.now ≡ piece ++ rest.now)) }
 {
     match text {
         [byte, rest @ ..] if is_space(*byte) => Some(rest),
@@ -55,7 +56,7 @@ fn skip_piece(text: &[u8]) -> Option<&[u8]>
 
 /// What stands behind all space and comments at the front of a text.
 pub(crate) fn skip_gap(text: &[u8]) -> &[u8]
-    ensures { (gap : List ℕ) × IsGap gap result.now × (text.now ≡ gap ++ result.now) }
+    ensures { (gap : List ℕ) × lexical.IsGap gap result.now × (text.now ≡ gap ++ result.now) }
 {
     let mut rest = text;
     while let Some(behind) = skip_piece(rest) {
