@@ -1,5 +1,6 @@
 pub mod Products
 pub mod Sums
+pub mod Legal
 mod Sizes
 mod Duality
 mod OnePoint
