@@ -1,5 +1,5 @@
 -- A problem of known numbers is legal where a test that computes says so.
-use Rattle.std.proofs.Common.{◌≡◌, ℕ, zero, suc, ◌+◌, ◌*◌, ◌^◌, ◌<◌, ◌≤◌, Bool, true, false, ◌&&◌, List, length, refl, ap, ◌∙◌, arith, inl, inr, eqb, ltb, leb}
+use Rattle.std.proofs.Common.{◌≡◌, ℕ, zero, suc, ◌^◌, ◌<◌, Bool, true, ◌&&◌, length, ap, ◌∙◌, arith, inl, inr, eqb, ltb, leb}
 use Rattle.std.specs.Prelude.{unsigned_abs}
 use Rattle.std.proofs.lemmas.Bool.{cases_lt, and_parts}
 use borrow.Author.Tests.{eqb-true, ltb-true, leb-true}
@@ -16,25 +16,25 @@ each-from_test test zero passes i h = absurd (omega arith)
 each-from_test test (suc n) passes i h =
     let parts = and_parts (each_below test n) (test n) passes in
     elim (cases_lt i n) [
-      inl lt ↦ each-from_test test n parts.0 i lt
-    | inr le ↦
-      let at : i ≡ n = omega arith in ap test at ∙ parts.1
+      | inl lt ↦ each-from_test test n parts.0 i lt
+      | inr le ↦
+          let at : i ≡ n = omega arith in ap test at ∙ parts.1
     ]
 
 -- the lengths and counts of a legal problem, as one test
 abbrev pub shape_test : ProblemData → Bool
 shape_test p = (eqb (length p.rhs) (row_count p) && eqb (length p.upper) (variables p))
-  && (ltb (variables p) (2 ^ 32) && leb (row_count p) 64)
+    && (ltb (variables p) (2 ^ 32) && leb (row_count p) 64)
 
 -- what it says of one row, as a test
 abbrev pub row_test : ProblemData → ℕ → Bool
 row_test p j = eqb (length (row_of p j)) (variables p)
-  && (leb (load p.upper (row_of p j) (variables p)) (2 ^ 60) && leb (unsigned_abs (int_at p.rhs j)) (2 ^ 61))
+    && (leb (load p.upper (row_of p j) (variables p)) (2 ^ 60) && leb (unsigned_abs (int_at p.rhs j)) (2 ^ 61))
 
 -- and all of it
 abbrev pub legal_test : ProblemData → Bool
 legal_test p = (shape_test p && leb (load p.upper p.cost (variables p)) (2 ^ 60))
-  && (each_below (row_test p) (row_count p) && each_below (λ (i : ℕ). leb (nat_at p.upper i) (10 ^ 12)) (variables p))
+    && (each_below (row_test p) (row_count p) && each_below (λ (i : ℕ). leb (nat_at p.upper i) (10 ^ 12)) (variables p))
 
 pub legal-from_test : (p : ProblemData) → legal_test p ≡ true → IsLegal p
 legal-from_test p passes =
@@ -56,5 +56,5 @@ legal-from_test p passes =
       cost_load = leb-true _ _ front.1;
       row_loads = λ j h. leb-true _ _ (sizes j h).0;
       rhs_small = λ j h. leb-true _ _ (sizes j h).1;
-      upper_small = λ i h. leb-true _ _ (each-from_test small (variables p) back.1 i h)
+      upper_small = λ i h. leb-true _ _ (each-from_test small (variables p) back.1 i h);
     }

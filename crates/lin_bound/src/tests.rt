@@ -37,7 +37,14 @@ fn odd_sum(alloc: Global) -> Result<Problem, AllocError>
     ensures variables { IfOk result (λ problem. variables problem ≡ 3) }
     ensures upper { IfOk result (λ problem. problem.upper ≡ 1 ∷ 1 ∷ 1 ∷ []) }
 {
-    two_rows(alloc, &[1, 1, 1], &[2, 2, 2], &[-2, -2, -2], &[3, -3], &[1, 1, 1])
+    two_rows(
+        alloc,
+        &[1, 1, 1],
+        &[2, 2, 2],
+        &[-2, -2, -2],
+        &[3, -3],
+        &[1, 1, 1],
+    )
 }
 
 /// One variable at most 1, whose loads are as large as a problem can have.
@@ -55,7 +62,12 @@ fn largest(alloc: Global) -> Result<Problem, AllocError>
 }
 
 /// Multipliers for two rows.
-fn multipliers(alloc: Global, problem: &Problem, d: u32, lambda: [u32; 2]) -> Result<Mult, AllocError>
+fn multipliers(
+    alloc: Global,
+    problem: &Problem,
+    d: u32,
+    lambda: [u32; 2],
+) -> Result<Mult, AllocError>
     requires rows { row_count problem.now ≡ 2 }
     requires d { d ≤ 2 ^ 30 }
     requires first { slice_index lambda 0 ≤ 2 ^ 30 }
@@ -68,7 +80,12 @@ fn multipliers(alloc: Global, problem: &Problem, d: u32, lambda: [u32; 2]) -> Re
     })
 }
 
-fn whole_bound(alloc: Global, problem: &Problem, d: u32, lambda: [u32; 2]) -> Result<i128, AllocError>
+fn whole_bound(
+    alloc: Global,
+    problem: &Problem,
+    d: u32,
+    lambda: [u32; 2],
+) -> Result<i128, AllocError>
     requires rows { row_count problem.now ≡ 2 }
     requires d { d ≤ 2 ^ 30 }
     requires first { slice_index lambda 0 ≤ 2 ^ 30 }
@@ -110,8 +127,16 @@ fn two_ones(alloc: Global, problem: &Problem) -> Result<Path, AllocError>
     requires upper { problem.now.upper ≡ 1 ∷ 1 ∷ 1 ∷ [] }
     ensures { IfOk result (λ path. IsPath problem.now path) }
 {
-    let second = Branch { var: 1, at: 0, high: true };
-    let first = Branch { var: 0, at: 0, high: true };
+    let second = Branch {
+        var: 1,
+        at: 0,
+        high: true,
+    };
+    let first = Branch {
+        var: 0,
+        at: 0,
+        high: true,
+    };
     Path::new(alloc).child(alloc, second)?.child(alloc, first)
 }
 
@@ -163,7 +188,11 @@ fn what_a_problem_tells(rt: HostRuntime) -> Result<(), Fail> {
 
 /// How long the path of `two_ones` is, and its last branch.
 fn last_branch(alloc: Global) -> Result<(usize, Branch), AllocError> {
-    let last = Branch { var: 0, at: 0, high: true };
+    let last = Branch {
+        var: 0,
+        at: 0,
+        high: true,
+    };
     let path = Path::new(alloc).child(alloc, last)?.copy(alloc)?;
     Ok((path.len(), path.branch(0)))
 }
