@@ -9,7 +9,7 @@ use Rattle.lin_bound.specs.Laws.{IsHalved, HalvesCover}
 use Rattle.lin_bound.specs.declared.region.Region.{Region}
 
 -- a number of a list after a write: the new one, or what it was
-after_set : (xs : List ℕ) (j y i : ℕ) → j < length xs → ((i ≡ j) × (nat_at (slice_set xs j y) i ≡ y)) ⊎ ((i ≢ j) × (nat_at (slice_set xs j y) i ≡ nat_at xs i))
+pub after_set : (xs : List ℕ) (j y i : ℕ) → j < length xs → ((i ≡ j) × (nat_at (slice_set xs j y) i ≡ y)) ⊎ ((i ≢ j) × (nat_at (slice_set xs j y) i ≡ nat_at xs i))
 after_set xs j y i h =
     elim (cases_eq i j) [
       | inl e ↦ inl (e, ap (nat_at (slice_set xs j y)) e ∙ get_or-set_same xs j y 0 h)

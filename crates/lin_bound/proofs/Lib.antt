@@ -1,8 +1,8 @@
 pub mod Products
 pub mod Sums
 pub mod Legal
-mod Sizes
-mod Duality
-mod OnePoint
-mod Halves
+pub mod Sizes
+pub mod Duality
+pub mod OnePoint
+pub mod Halves
 mod Cuts

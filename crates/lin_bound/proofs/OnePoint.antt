@@ -39,7 +39,7 @@ greatest_same : (w : ℤ) (low high : ℕ) → low ≡ high → greatest w low h
 greatest_same w low high e = omega (arith, ints, clamps, ap (λ (t : ℕ). w *ℤ pos t) e)
 
 -- the bound under number 0 is the cost of the point
-bound_of_cost : (p : ProblemData) (box : Region) → IsOnePoint p box → bound_of p box (plain p 0) ≡ cost_at p box.low
+pub bound_of_cost : (p : ProblemData) (box : Region) → IsOnePoint p box → bound_of p box (plain p 0) ≡ cost_at p box.low
 bound_of_cost p box one =
     let m = row_count p in
     let mult = plain p 0 in
@@ -54,7 +54,7 @@ minus_times : (a : ℤ) (t : ℕ) → (pos 0 -ℤ a) *ℤ pos t ≡ pos 0 -ℤ (
 minus_times a t = omega (arith, ints, mul-sub_left (pos 0) a (pos t), zero-*ℤ (pos t))
 
 -- the bound under a row's number is what the point leaves of that row
-bound_of_row : (p : ProblemData) (box : Region) (j : ℕ) → j < row_count p → IsOnePoint p box → bound_of p box (plain p (suc j)) ≡ int_at p.rhs j -ℤ row_at p j box.low
+pub bound_of_row : (p : ProblemData) (box : Region) (j : ℕ) → j < row_count p → IsOnePoint p box → bound_of p box (plain p (suc j)) ≡ int_at p.rhs j -ℤ row_at p j box.low
 bound_of_row p box j below one =
     let m = row_count p in
     let mult = plain p (suc j) in
@@ -78,11 +78,11 @@ all_or_one f g (suc n) =
     ]
 
 -- the one point, where it keeps each row
-point_feasible : (p : ProblemData) (box : Region) → IsRegion p box → ((j : ℕ) → j < row_count p → row_at p j box.low ≤ℤ int_at p.rhs j) → IsFeasible p box.low
+pub point_feasible : (p : ProblemData) (box : Region) → IsRegion p box → ((j : ℕ) → j < row_count p → row_at p j box.low ≤ℤ int_at p.rhs j) → IsFeasible p box.low
 point_feasible p box region keeps =
     record { each = region.low_each; within = λ i h. omega (arith, region.ordered i h, region.within i h); keeps = keeps }
 
-point_inside : (p : ProblemData) (box : Region) → IsRegion p box → IsInBox p box box.low
+pub point_inside : (p : ProblemData) (box : Region) → IsRegion p box → IsInBox p box box.low
 point_inside p box region = record { low = λ i h. omega arith; high = region.ordered }
 
 -- a broken row closes the box for every value

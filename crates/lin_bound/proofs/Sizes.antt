@@ -6,7 +6,7 @@ use Rattle.std.proofs.lemmas.Int.{ints, clamps, unsigned_abs-mul, fits_signed_fr
 use mir.Syntax.{w64, w128}
 use mir.Val.{SFits, to_z, of_z}
 use Rattle.lin_bound.specs.Sums.{sum_below, count_below, int_at, nat_at}
-use Rattle.lin_bound.specs.Problem.{ProblemData, variables, row_count, coefficient_of, IsLegal}
+use Rattle.lin_bound.specs.Problem.{value_at, load, ProblemData, variables, row_count, coefficient_of, IsLegal}
 use Rattle.lin_bound.specs.Box.{IsRegion}
 use Rattle.lin_bound.specs.Bound.{IsMult, share_of, weight, greatest, part_of}
 use Rattle.lin_bound.specs.declared.region.Region.{Region}
@@ -143,3 +143,9 @@ fits_small z small = fits_signed_from_abs w128 z (omega (arith, small))
 -- a sum that fits is what the machine adds
 pub stored : (total gain sum : ℤ) → SFits w128 gain → SFits w128 (total +ℤ gain) → total +ℤ gain ≡ sum → to_z w128 (of_z w128 (total +ℤ to_z w128 (of_z w128 gain))) ≡ sum
 stored total gain sum gain_fits sum_fits is = simp to_z-of_z is
+
+-- a value within the uppers is no larger than the load
+pub value_small : (upper x : List ℕ) (coefficients : List ℤ) (n : ℕ) → ((i : ℕ) → i < n → nat_at x i ≤ nat_at upper i) → unsigned_abs (value_at coefficients x n) ≤ load upper coefficients n
+value_small upper x coefficients n within =
+    abs-sum_below (λ (i : ℕ). int_at coefficients i *ℤ pos (nat_at x i)) (λ (i : ℕ). nat_at upper i * unsigned_abs (int_at coefficients i)) n
+    (λ i h. omega (arith, unsigned_abs-mul (int_at coefficients i) (pos (nat_at x i)), mul-le-mul_right (unsigned_abs (int_at coefficients i)) (within i h)))
