@@ -1,20 +1,22 @@
 -- What the solver's answer to a script's program says of its query.
 use Rattle.std.proofs.Common.{◌≡◌, ℕ, suc, zero, ◌+◌, ◌*◌, ◌-◌, ◌^◌, ◌≤◌, List, [], ◌∷◌, length, replicate, ℤ, ◌≤ℤ◌, sym, ap, ◌∙◌, subst, refl, arith}
 use Rattle.std.proofs.lemmas.Int.{ints}
-use Rattle.std.proofs.Math.Nat.{pow-zero, pow-succ'}
+use Rattle.std.proofs.Math.Nat.{pow-zero, pow-suc}
+use Rattle.std.proofs.lemmas.List.{get_or-replicate}
+use Rattle.lin_bound.specs.Sums.{nat_at}
 use Rattle.lin_bound.specs.Problem.{ProblemData, IsFeasible, cost_at}
 use Rattle.package_query.specs.Meaning.{Meets, Best, Empty, worth}
 use Rattle.paql_ast.specs.Asks.{query_of, rows_of}
 use Rattle.paql_ast.specs.declared.Script.{Script}
 use Rattle.paql.specs.Translation.{program_of, package_from, IsPoint, IsAnswered}
 use Rattle.paql.proofs.Translated.{translated, point_of}
-use Rattle.search_core.specs.Solved.{product}
+use Rattle.search_core.specs.Search.{points_below}
 
 -- a best point's package is best
-pub best_package : (script : Script) (x : List ℕ) → IsFeasible (program_of script) x
-    → ((y : List ℕ) → IsFeasible (program_of script) y → cost_at (program_of script) y ≤ℤ cost_at (program_of script) x)
+pub best_package : (script : Script) (x : List ℕ) (most : ℤ) → IsFeasible (program_of script) x → cost_at (program_of script) x ≡ most
+    → ((y : List ℕ) → IsFeasible (program_of script) y → cost_at (program_of script) y ≤ℤ most)
     → Best (query_of script.query) (rows_of script.insert) (package_from 1 x)
-best_package script x is most =
+best_package script x most is comes above =
     let means = translated script in
     let cost = means.worth x (point_of script x is) in
     record {
@@ -26,7 +28,7 @@ best_package script x is most =
           let feasible = means.feasible found.0 found.1 met in
           let value : cost_at (program_of script) found.0 ≡ worth (query_of script.query) (rows_of script.insert) other =
           means.worth found.0 found.1 ∙ ap (worth (query_of script.query) (rows_of script.insert)) same in
-          omega (arith, ints, most found.0 feasible, value, cost);
+          omega (arith, ints, above found.0 feasible, comes, value, cost);
     }
 
 pub best_worth : (script : Script) (x : List ℕ) → IsFeasible (program_of script) x
@@ -42,15 +44,17 @@ none_meets script none = λ (pairs : List (ℕ × ℕ)) (meets : Meets (query_of
     none found.0 (means.feasible found.0 found.1 (rw same meets))
 
 -- so many points, of which there are at most 1,000
-product-replicate : (n k : ℕ) → product (replicate n (k + 1)) ≡ (k + 2) ^ n
-product-replicate zero k = sym (pow-zero (k + 2))
-product-replicate (suc n) k =
-    let rest = product-replicate n k in
-    let more = pow-succ' (k + 2) n in
-    let one : (k + 1) + 1 ≡ k + 2 = omega arith in
-    ap (λ (m : ℕ). ((k + 1) + 1) * m) rest ∙ ap (λ (m : ℕ). m * (k + 2) ^ n) one ∙ sym more
+points-replicate : (m n k : ℕ) → n ≤ m → points_below (replicate m (k + 1)) n ≡ (k + 2) ^ n
+points-replicate m zero k h = sym (pow-zero (k + 2))
+points-replicate m (suc n) k h =
+  let rest = points-replicate m n k (omega (arith, h)) in
+  let more = pow-suc (k + 2) n in
+  let upper = get_or-replicate m n (k + 1) 0 (omega (arith, h)) in
+  let one : nat_at (replicate m (k + 1)) n + 1 ≡ k + 2 = omega (arith, upper) in
+  ap (λ (points : ℕ). points * (nat_at (replicate m (k + 1)) n + 1)) rest ∙ ap (λ (each : ℕ). (k + 2) ^ n * each) one ∙ sym more
 
-pub few_nodes : (script : Script) → IsAnswered script → 2 * product (replicate (length script.insert.values) (script.query.repeat + 1)) - 1 ≤ 2000
+pub few_nodes : (script : Script) → IsAnswered script
+  → 2 * points_below (replicate (length script.insert.values) (script.query.repeat + 1)) (length script.insert.values) - 1 ≤ 2000
 few_nodes script is =
-    let points = product-replicate (length script.insert.values) script.query.repeat in
-    omega (arith, points, is.small)
+  let points = points-replicate (length script.insert.values) (length script.insert.values) script.query.repeat (omega arith) in
+  omega (arith, points, is.small)

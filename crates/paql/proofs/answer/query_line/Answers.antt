@@ -6,7 +6,6 @@ use Rattle.std.specs.Int.RustNames.{FitsSigned}
 use Rattle.lin_bound.specs.Problem.{ProblemData, IsFeasible, cost_at}
 use Rattle.package_query.specs.Meaning.{worth}
 use Rattle.paql_ast.specs.Asks.{query_of, rows_of}
-use Rattle.search_core.specs.Solved.{product}
 use Rattle.paql.specs.Answers.{AnswersQuery}
 use Rattle.paql.specs.Replies.{optimal_line, infeasible_line}
 use Rattle.paql.specs.Translation.{program_of, package_from}
@@ -31,12 +30,12 @@ returns c =
     let best = rw c.in_ok-problem.ensures at solved in
     let fits : FitsSigned w64 c.in-Best.value = search rules in
     let pairs : c.as_slice.result.now ≡ package_from 1 c.in-Best.point = c.as_slice.ensures ∙ c.in_ok-pairs-in-Best.ensures ∙ ap (package_from 1) c.counts.ensures in
-    let value = best.1 ∙ best_worth c.args.script.now c.in-Best.point best.0 in
+    let value = sym best.1 ∙ best_worth c.args.script.now c.in-Best.point best.0 in
     let line = simp to_z-of_z at c.optimal.ensures in
     IfOk-weaker c.optimal.result (λ line. string_bytes line ≡ optimal_line c.in-Best.value c.as_slice.result.now) (λ line. AnswersQuery c.args.script.now (string_bytes line))
     (λ line shown. inl (record {
       pairs = package_from 1 c.in-Best.point;
-      best = best_package c.args.script.now c.in-Best.point best.0 best.2;
+      best = best_package c.args.script.now c.in-Best.point c.in-Best.value best.0 best.1 best.2;
       shown = shown ∙ ap (λ z. optimal_line z c.as_slice.result.now) value ∙ ap (optimal_line (worth (query_of c.args.script.now.query) (rows_of c.args.script.now.insert) (package_from 1 c.in-Best.point))) pairs;
     }))
     line
