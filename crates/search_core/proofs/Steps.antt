@@ -1,6 +1,6 @@
 -- The steps of a search: a closed box, a box of one point, two halves, and the whole.
-use Rattle.std.proofs.Common.{◌≡◌, ℕ, zero, suc, ◌+◌, ◌^◌, ◌<◌, ◌≤◌, List, length, refl, sym, ap, ◌∙◌, arith, inl, inr, replicate}
-use Rattle.std.specs.Prelude.{ℤ, pos, ◌+ℤ◌, ◌*ℤ◌, ◌≤ℤ◌, ◌<ℤ◌, Option, None, Some, unsigned_abs, FitsSigned}
+use Rattle.std.proofs.Common.{◌≡◌, ℕ, zero, suc, ◌+◌, ◌^◌, ◌<◌, ◌≤◌, List, length, refl, sym, ap, ◌∙◌, arith, inl, inr, replicate, below_more, subst, Bool, true, false}
+use Rattle.std.specs.Prelude.{ℤ, pos, ◌+ℤ◌, ◌*ℤ◌, ◌≤ℤ◌, ◌<ℤ◌, Option, None, Some, unsigned_abs, FitsSigned, not}
 use Rattle.std.proofs.lemmas.Int.{ints, by_lt_z, fits_signed_from_abs}
 use Rattle.std.proofs.lemmas.List.{get_or-replicate}
 use Rattle.std.proofs.Math.IntN.{zero-*ℤ}
@@ -12,6 +12,7 @@ use Rattle.lin_bound.specs.Bound.{bound_of, Closes, plain}
 use Rattle.lin_bound.specs.Laws.{NotAbove, other_half}
 use Rattle.lin_bound.specs.declared.region.Region.{Region}
 use Rattle.lin_bound.specs.declared.path.Branch.{Branch}
+use Rattle.lin_bound.specs.declared.mult.Mult.{Mult}
 use Rattle.lin_bound.proofs.Sums.{sum-ext}
 use Rattle.lin_bound.proofs.Sizes.{value_small}
 use Rattle.lin_bound.proofs.Duality.{closed_holds_none}
@@ -102,3 +103,29 @@ pub cost_fits : (p : ProblemData) (box : Region) (bound : ℤ) → IsLegal p →
 cost_fits p box bound legal region one bound_is =
     let size : unsigned_abs (cost_at p box.low) ≤ 2 ^ 60 = omega (arith, legal.cost_load, value_small p.upper box.low p.cost (variables p) (λ i h. omega (arith, region.ordered i h, region.within i h))) in
     rw (bound_is ∙ bound_of_cost p box one) (fits_signed_from_abs w64 (cost_at p box.low) (omega (arith, size)))
+
+-- one more number that closes nothing
+pub open_more : (p : ProblemData) (box : Region) (best : Option ℤ) (n : ℕ) (mult : Mult) → mult ≡ plain p n → ¬ Closes p box mult best → IsOpenBelow p box best n → IsOpenBelow p box best (n + 1)
+open_more p box best n mult mult_is leaves below =
+    below_more (λ (number : ℕ). ¬ Closes p box (plain p number) best) n below (λ closes. leaves (rw mult_is closes))
+
+-- the branch to the upper half is the other one
+upper_is : (lower : Branch) → lower.high ≡ false → ◌≡◌ {A = Branch} (record { var = lower.var; at = lower.at; high = true }) (other_half lower)
+upper_is lower low = ap (λ (b : Bool). record { var = lower.var; at = lower.at; high = not b }) (sym low)
+
+-- the two halves of a box that was lent between them
+pub both_improve : (p : ProblemData) (box lent : Region) (lower : Branch) (best mid now : Option Found) → lent ≡ box → lower.high ≡ false → IsRegion p box → Splits lower box → Improves p (half lower box) best mid → Improves p (half (record { var = lower.var; at = lower.at; high = true }) lent) mid now → Improves p box best now
+both_improve p box lent lower best mid now same low region splits first second =
+    let P : Region → Branch → Type 0 = λ r b. Improves p (half b r) mid now in
+    halves_improve p box lower best mid now region splits first
+      (subst (P box) (upper_is lower low) (subst (λ (r : Region). P r (record { var = lower.var; at = lower.at; high = true })) same second))
+
+-- the upper branch divides what the lower one does
+pub upper_splits : (lower : Branch) (box lent : Region) → lent ≡ box → Splits lower box → Splits (record { var = lower.var; at = lower.at; high = true }) lent
+upper_splits lower box lent same splits =
+    rw same (record { var = splits.var; low = splits.low; high = splits.high })
+
+-- what improves on nothing in the whole box is the best of all
+pub whole_best : (p : ProblemData) (box : Region) (found : Found) → box ≡ whole_box p → Improves p box None (Some found) → IsFeasible p found.point × (cost_at p found.point ≡ found.value) × ((x : List ℕ) → IsFeasible p x → cost_at p x ≤ℤ found.value)
+whole_best p box found whole improves =
+    (improves.found.0, improves.found.1, λ x feasible. improves.covers x feasible (rw whole (in_whole p x feasible)))

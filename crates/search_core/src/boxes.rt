@@ -98,6 +98,7 @@ pub fn point_of(alloc: Global, problem: &Problem, region: &Region) -> Result<Fou
     ensures point { IfOk result (λ found. found.point ≡ region.now.low) }
     ensures value { IfOk result (λ found. found.value ≡ cost_at problem.now region.now.low) }
 {
+    let _legal = problem.variables();
     let cost = plain_mult(alloc, problem, 0)?;
     let value = bound(problem, region, &cost) as i64;
     let point = Point::new(Items::from_slice(alloc, region.low.as_slice())?);

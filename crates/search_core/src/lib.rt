@@ -7,3 +7,6 @@ mod solver;
 
 pub use solved::Solved;
 pub use solver::SoloSolver;
+
+#[cfg(test)]
+mod tests;

@@ -53,7 +53,7 @@ fn improve(
     if is_closed(alloc, problem, region, best_value(&best))? {
         return Ok(best);
     }
-    let _few = problem.variables();
+    let _legal = problem.variables();
     let Some(variable) = first_wide(region) else {
         return Ok(Some(point_of(alloc, problem, region)?));
     };
