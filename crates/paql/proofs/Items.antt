@@ -1,5 +1,5 @@
 -- The items of a script, each of which a text can begin with in one way only.
-use Rattle.std.proofs.Common.{◌≡◌, ℕ, List, [], ◌∷◌, ◌++◌, ℤ, codes, refl, sym, ◌∙◌, ap, append_assoc, inl, inr, arith}
+use Rattle.std.proofs.Common.{◌≡◌, ℕ, List, [], ◌∷◌, ◌++◌, codes, refl, sym, ◌∙◌, append_assoc, inl, arith}
 use Rattle.std.proofs.lemmas.List.{append_cancel_left}
 use Rattle.std.specs.Fmt.{signed_decimal}
 use Rattle.paql_ast.specs.declared.Measure.{Measure}

@@ -1,13 +1,13 @@
 -- The program of an answered script is one that fits the machine's numbers.
-use Rattle.std.proofs.Common.{◌≡◌, ℕ, zero, suc, ◌+◌, ◌*◌, ◌^◌, ◌<◌, ◌≤◌, List, [], ◌∷◌, length, map, replicate, get_or, ℤ, pos, neg_ℤ, refl, sym, ap, ◌∙◌, arith}
+use Rattle.std.proofs.Common.{◌≡◌, ℕ, zero, suc, ◌+◌, ◌*◌, ◌^◌, ◌<◌, ◌≤◌, List, [], ◌∷◌, length, map, replicate, get_or, ℤ, neg_ℤ, sym, ◌∙◌, arith}
 use Rattle.std.proofs.lemmas.Int.{ints}
 use Rattle.std.proofs.lemmas.List.{get_or-replicate, length-map, length-replicate}
-use Rattle.std.proofs.Math.Nat.{mul-le-mul_left, mul-le-mul}
+use Rattle.std.proofs.Math.Nat.{mul-le-mul}
 use Rattle.std.specs.Int.RustNames.{unsigned_abs}
 use Rattle.std.specs.List.{AllByRecursion}
 use Rattle.lin_bound.proofs.Sums.{count-most}
 use Rattle.lin_bound.specs.Problem.{IsLegal, load}
-use Rattle.lin_bound.specs.Sums.{count_below, int_at, nat_at}
+use Rattle.lin_bound.specs.Sums.{int_at, nat_at}
 use Rattle.paql_ast.specs.Asks.{per_copy}
 use Rattle.paql_ast.specs.declared.Measure.{Measure}
 use Rattle.paql_ast.specs.declared.Measure.TheVariants.{Count, Sum}

@@ -1,5 +1,5 @@
 -- The text of a package's pairs, as a loop writes it.
-use Rattle.std.proofs.Common.{◌≡◌, ℕ, suc, ◌+◌, ◌<◌, List, [], ◌∷◌, ◌++◌, length, drop, get_or, codes, refl, sym, ap, ◌∙◌, append_assoc, append-nil, add-one, drop-cons, arith}
+use Rattle.std.proofs.Common.{◌≡◌, ℕ, ◌+◌, ◌<◌, List, ◌∷◌, ◌++◌, length, drop, get_or, codes, refl, sym, ap, ◌∙◌, append_assoc, add-one, drop-cons}
 use Rattle.paql.specs.Form.{followed}
 use Rattle.paql.specs.Replies.{pair_text, pairs_text}
 

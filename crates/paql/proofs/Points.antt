@@ -1,5 +1,5 @@
 -- Points of a script's program and the packages that they stand for.
-use Rattle.std.proofs.Common.{◌≡◌, ◌≢◌, ◌⊎◌, ℕ, zero, suc, ◌+◌, ◌<◌, ◌≤◌, List, [], ◌∷◌, ◌++◌, length, map, take, get_or, ℤ, pos, ◌+ℤ◌, ◌-ℤ◌, ◌*ℤ◌, ◌≤ℤ◌, neg_ℤ, refl, sym, ap, ◌∙◌, subst, Bool, true, false, eqb, cond, Option, Some, None, IsTrue, arith, ⊎_elim}
+use Rattle.std.proofs.Common.{◌≡◌, ◌≢◌, ℕ, zero, suc, ◌+◌, ◌<◌, ◌≤◌, List, [], ◌∷◌, ◌++◌, length, map, take, get_or, ℤ, pos, ◌+ℤ◌, ◌-ℤ◌, ◌*ℤ◌, neg_ℤ, refl, sym, ap, ◌∙◌, subst, Bool, true, false, eqb, cond, Option, Some, None, IsTrue, arith, ⊎_elim}
 use Rattle.std.proofs.lemmas.Bool.{cases_lt}
 use Rattle.std.proofs.lemmas.Bool.Decides.{eqb_tells}
 use Rattle.std.proofs.lemmas.Int.{ints}
@@ -9,7 +9,7 @@ use Rattle.std.proofs.Math.IntN.{*ℤ_comm}
 use Rattle.lin_bound.proofs.Products.{mul-sub_left}
 use Rattle.lin_bound.specs.Problem.{value_at}
 use Rattle.lin_bound.specs.Sums.{sum_below, int_at, nat_at}
-use Rattle.package_query.specs.Meaning.{copies_give, pair_gives, total, IsAllowed}
+use Rattle.package_query.specs.Meaning.{pair_gives, total, IsAllowed}
 use Rattle.package_query.specs.Package.{RisesFrom, row_at}
 use Rattle.package_query.specs.Query.{PackageQuery}
 use Rattle.paql_ast.specs.Asks.{rows_from}

@@ -1,14 +1,14 @@
 -- What the solver's answer to a script's program says of its query.
-use Rattle.std.proofs.Common.{◌≡◌, ℕ, suc, zero, ◌+◌, ◌*◌, ◌-◌, ◌^◌, ◌≤◌, List, [], ◌∷◌, length, replicate, ℤ, ◌≤ℤ◌, sym, ap, ◌∙◌, subst, refl, arith}
+use Rattle.std.proofs.Common.{◌≡◌, ℕ, suc, zero, ◌+◌, ◌*◌, ◌-◌, ◌^◌, ◌≤◌, List, length, replicate, ℤ, ◌≤ℤ◌, sym, ap, ◌∙◌, arith}
 use Rattle.std.proofs.lemmas.Int.{ints}
 use Rattle.std.proofs.Math.Nat.{pow-zero, pow-suc}
 use Rattle.std.proofs.lemmas.List.{get_or-replicate}
 use Rattle.lin_bound.specs.Sums.{nat_at}
-use Rattle.lin_bound.specs.Problem.{ProblemData, IsFeasible, cost_at}
+use Rattle.lin_bound.specs.Problem.{IsFeasible, cost_at}
 use Rattle.package_query.specs.Meaning.{Meets, Best, Empty, worth}
 use Rattle.paql_ast.specs.Asks.{query_of, rows_of}
 use Rattle.paql_ast.specs.declared.Script.{Script}
-use Rattle.paql.specs.Translation.{program_of, package_from, IsPoint, IsAnswered}
+use Rattle.paql.specs.Translation.{program_of, package_from, IsAnswered}
 use Rattle.paql.proofs.Translated.{translated, point_of}
 use Rattle.search_core.specs.Search.{points_below}
 
@@ -47,14 +47,14 @@ none_meets script none = λ (pairs : List (ℕ × ℕ)) (meets : Meets (query_of
 points-replicate : (m n k : ℕ) → n ≤ m → points_below (replicate m (k + 1)) n ≡ (k + 2) ^ n
 points-replicate m zero k h = sym (pow-zero (k + 2))
 points-replicate m (suc n) k h =
-  let rest = points-replicate m n k (omega (arith, h)) in
-  let more = pow-suc (k + 2) n in
-  let upper = get_or-replicate m n (k + 1) 0 (omega (arith, h)) in
-  let one : nat_at (replicate m (k + 1)) n + 1 ≡ k + 2 = omega (arith, upper) in
-  ap (λ (points : ℕ). points * (nat_at (replicate m (k + 1)) n + 1)) rest ∙ ap (λ (each : ℕ). (k + 2) ^ n * each) one ∙ sym more
+    let rest = points-replicate m n k (omega (arith, h)) in
+    let more = pow-suc (k + 2) n in
+    let upper = get_or-replicate m n (k + 1) 0 (omega (arith, h)) in
+    let one : nat_at (replicate m (k + 1)) n + 1 ≡ k + 2 = omega (arith, upper) in
+    ap (λ (points : ℕ). points * (nat_at (replicate m (k + 1)) n + 1)) rest ∙ ap (λ (each : ℕ). (k + 2) ^ n * each) one ∙ sym more
 
 pub few_nodes : (script : Script) → IsAnswered script
-  → 2 * points_below (replicate (length script.insert.values) (script.query.repeat + 1)) (length script.insert.values) - 1 ≤ 2000
+    → 2 * points_below (replicate (length script.insert.values) (script.query.repeat + 1)) (length script.insert.values) - 1 ≤ 2000
 few_nodes script is =
-  let points = points-replicate (length script.insert.values) (length script.insert.values) script.query.repeat (omega arith) in
-  omega (arith, points, is.small)
+    let points = points-replicate (length script.insert.values) (length script.insert.values) script.query.repeat (omega arith) in
+    omega (arith, points, is.small)

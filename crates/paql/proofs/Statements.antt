@@ -1,14 +1,13 @@
 -- The statements of a script: where each part of them stands in a text.
-use Rattle.std.proofs.Common.{◌≡◌, ◌⊎◌, ℕ, ◌+◌, ◌^◌, ◌≤◌, length, List, [], ◌∷◌, ◌++◌, ℤ, pos, codes, decimal, refl, sym, ◌∙◌, ap, subst, inl, inr, append_assoc, append-nil, arith, ⊎_elim}
+use Rattle.std.proofs.Common.{◌≡◌, ◌⊎◌, ℕ, ◌+◌, ◌^◌, ◌≤◌, length, List, [], ◌∷◌, ◌++◌, ℤ, pos, codes, decimal, refl, sym, ◌∙◌, ap, inl, inr, append_assoc, append-nil, ⊎_elim}
 use Rattle.std.proofs.lemmas.List.{append_cancel_left}
-use Rattle.std.specs.Fmt.{signed_decimal}
 use Rattle.paql_ast.specs.declared.Conjunct.{Conjunct}
 use Rattle.paql_ast.specs.declared.Query.{Query}
 use Rattle.paql_ast.specs.declared.Script.{Script}
 use Rattle.paql.specs.Form.{InRange, HasLimit, AreItems, IsAsked, IsScript, joined, value_text, conjunct_text, insert_text, query_text, script_text}
 use Rattle.paql.specs.Numbers.{EndsNumber}
 use Rattle.paql.proofs.Decimals.{number_free}
-use Rattle.paql.proofs.Fronts.{IsFree, AreApart, list_free}
+use Rattle.paql.proofs.Fronts.{IsFree, list_free}
 use Rattle.paql.proofs.Items.{value_free, conjunct_free, comma_apart, and_apart, space_ends}
 
 pub whole_free : (end : ℕ) → EndsNumber end → (a b : ℕ) (r s : List ℕ) → a ≤ 10 ^ 12 → b ≤ 10 ^ 12

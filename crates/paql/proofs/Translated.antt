@@ -1,13 +1,12 @@
 -- The program of a script means its query.
-use Rattle.std.proofs.Common.{◌≡◌, ℕ, zero, suc, ◌+◌, ◌<◌, ◌≤◌, List, [], ◌∷◌, length, map, replicate, get_or, ℤ, pos, ◌+ℤ◌, ◌*ℤ◌, ◌≤ℤ◌, neg_ℤ, refl, sym, ap, ◌∙◌, subst, Some, IsTrue, true, arith}
+use Rattle.std.proofs.Common.{◌≡◌, ℕ, zero, suc, ◌+◌, ◌<◌, ◌≤◌, List, [], ◌∷◌, length, map, get_or, ℤ, ◌≤ℤ◌, refl, sym, ap, ◌∙◌, arith}
 use Rattle.std.proofs.lemmas.Int.{ints}
 use Rattle.std.proofs.lemmas.List.{get_or-replicate, length-map}
 use Rattle.std.specs.List.{AllByRecursion}
-use Rattle.lin_bound.specs.Problem.{ProblemData, IsFeasible, cost_at, row_at as row_value, value_at}
+use Rattle.lin_bound.specs.Problem.{IsFeasible, cost_at, value_at}
 use Rattle.lin_bound.specs.Sums.{int_at, nat_at}
-use Rattle.package_query.specs.Meaning.{Keeps, Meets, total, worth, IsAllowed}
+use Rattle.package_query.specs.Meaning.{Keeps, Meets, total, worth}
 use Rattle.package_query.specs.Query.{Holds}
-use Rattle.package_query.specs.Package.{RisesFrom}
 use Rattle.paql_ast.specs.Asks.{per_copy, compared, condition_of, query_of, rows_of, rows_from}
 use Rattle.paql_ast.specs.declared.Measure.{Measure}
 use Rattle.paql_ast.specs.declared.Measure.TheVariants.{Sum}
@@ -15,8 +14,8 @@ use Rattle.paql_ast.specs.declared.Side.{Side}
 use Rattle.paql_ast.specs.declared.Side.TheVariants.{AtMost, AtLeast}
 use Rattle.paql_ast.specs.declared.Conjunct.{Conjunct}
 use Rattle.paql_ast.specs.declared.Script.{Script}
-use Rattle.paql.proofs.Points.{AreCounts, HasCounts, dot, dot-neg, value-dot, total-package, map-same, package_rises, rises_later, rises_from_zero, counts_allowed, counts_of, counts_one}
-use Rattle.paql.specs.Translation.{signed, coefficient, row_of, side_of, program_of, package_from, IsPoint, IsTranslated, TranslationKeepsMeaning}
+use Rattle.paql.proofs.Points.{AreCounts, dot, dot-neg, value-dot, total-package, map-same, package_rises, rises_later, rises_from_zero, counts_allowed, counts_of, counts_one}
+use Rattle.paql.specs.Translation.{signed, coefficient, row_of, side_of, program_of, package_from, IsPoint, TranslationKeepsMeaning}
 
 -- the total of a measure over a package of counts
 measure_total : Measure → List ℤ → List ℕ → ℤ

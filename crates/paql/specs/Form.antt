@@ -1,5 +1,5 @@
 -- The text of a script, and which texts are scripts.
-use Rattle.std.specs.Prelude.{◌≡◌, ◌⊎◌, ℕ, ◌+◌, ◌^◌, ◌<◌, ◌≤◌, List, [], ◌∷◌, ◌++◌, length, ℤ, codes, decimal}
+use Rattle.std.specs.Prelude.{◌≡◌, ◌⊎◌, ℕ, ◌+◌, ◌^◌, ◌≤◌, List, [], ◌∷◌, ◌++◌, length, ℤ, codes, decimal}
 use Rattle.std.specs.Fmt.{signed_decimal}
 use Rattle.std.specs.Int.RustNames.{unsigned_abs}
 use Rattle.std.specs.List.{AllByRecursion}
@@ -8,7 +8,6 @@ use Rattle.paql_ast.specs.declared.Measure.TheVariants.{Count, Sum}
 use Rattle.paql_ast.specs.declared.Side.{Side}
 use Rattle.paql_ast.specs.declared.Side.TheVariants.{AtMost, AtLeast}
 use Rattle.paql_ast.specs.declared.Conjunct.{Conjunct}
-use Rattle.paql_ast.specs.declared.Insert.{Insert}
 use Rattle.paql_ast.specs.declared.Query.{Query}
 use Rattle.paql_ast.specs.declared.Script.{Script}
 

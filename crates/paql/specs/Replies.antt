@@ -1,5 +1,5 @@
 -- The lines that answer a script: a JSON object each, with its keys in byte order, and a line feed.
-use Rattle.std.specs.Prelude.{ℕ, List, ◌++◌, length, ℤ, codes, decimal}
+use Rattle.std.specs.Prelude.{ℕ, List, ◌++◌, ℤ, codes, decimal}
 use Rattle.std.specs.Fmt.{signed_decimal}
 use Rattle.paql.specs.Form.{joined}
 

@@ -1,6 +1,6 @@
 -- What reading a whole source and writing a whole text do.
 use Rattle.std.specs.Prelude.{◌≡◌, ℕ, ◌≤◌, ◌<◌, List, ◌++◌, length, Option}
-use Rattle.std.specs.Io.KnownBytes.{Consumes, Appends, Keeps, IsAtEnd}
+use Rattle.std.specs.Io.KnownBytes.{Consumes, Appends, IsAtEnd}
 use Rattle.pq_base.specs.Outside.{Rose}
 use Rattle.paql.specs.declared.streams.Taken.{Taken}
 use Rattle.paql.specs.declared.streams.Taken.TheVariants.{All, Failed, TooMany, Memory}

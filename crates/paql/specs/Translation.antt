@@ -1,7 +1,7 @@
 -- The bounded integer program of a script, and the package of one of its points.
 use Rattle.std.specs.Prelude.{◌≡◌, ℕ, zero, suc, ◌+◌, ◌^◌, ◌<◌, ◌≤◌, List, [], ◌∷◌, length, map, replicate, ℤ}
 use lib.IntN.{neg_ℤ}
-use Rattle.lin_bound.specs.Problem.{ProblemData, IsFeasible, cost_at, variables}
+use Rattle.lin_bound.specs.Problem.{ProblemData, IsFeasible, cost_at}
 use Rattle.lin_bound.specs.Sums.{nat_at}
 use Rattle.package_query.specs.Meaning.{Meets, worth}
 use Rattle.paql_ast.specs.Asks.{per_copy, query_of, rows_of}

@@ -28,7 +28,7 @@ closed_improves p box best found closed =
     record {
       found = found;
       keeps = λ x h. h;
-      covers = λ x feasible inside. closed_holds_none p box (plain p (closed.0)) (value_in best) x (closed.2) feasible inside
+      covers = λ x feasible inside. closed_holds_none p box (plain p (closed.0)) (value_in best) x (closed.2) feasible inside;
     }
 
 -- a box with no room is one point
@@ -45,23 +45,23 @@ broken_closes p box (Some z) j below broken one =
 open_feasible : (p : ProblemData) (box : Region) (best : Option ℤ) → IsRegion p box → IsOnePoint p box → IsOpenBelow p box best (row_count p + 1) → IsFeasible p box.low
 open_feasible p box best region one none =
     point_feasible p box region (λ j h.
-      by_lt_z (int_at p.rhs j) (row_at p j box.low)
-        (λ lt. absurd (none (suc j) (omega (arith, h)) (broken_closes p box best j h lt one)))
-        (λ le. le))
+    by_lt_z (int_at p.rhs j) (row_at p j box.low)
+    (λ lt. absurd (none (suc j) (omega (arith, h)) (broken_closes p box best j h lt one)))
+    (λ le. le))
 
 -- where the cost doesn't, its cost is above the value
 open_above : (p : ProblemData) (box : Region) (z : ℤ) → IsOnePoint p box → ¬ Closes p box (plain p 0) (Some z) → z ≤ℤ cost_at p box.low
 open_above p box z one none =
     by_lt_z (cost_at p box.low) (z +ℤ pos 1)
-      (λ lt. absurd (none (omega (arith, ints, bound_of_cost p box one, lt))))
-      (λ le. omega (arith, ints, le))
+    (λ lt. absurd (none (omega (arith, ints, bound_of_cost p box one, lt))))
+    (λ le. omega (arith, ints, le))
 
 -- each point of the box costs the same
 same_cost : (p : ProblemData) (box : Region) (x : List ℕ) → IsOnePoint p box → IsInBox p box x → cost_at p x ≡ cost_at p box.low
 same_cost p box x one inside =
     sum-ext (λ (i : ℕ). int_at p.cost i *ℤ pos (nat_at x i)) (λ (i : ℕ). int_at p.cost i *ℤ pos (nat_at box.low i)) (variables p) (λ i h.
-      let same : nat_at x i ≡ nat_at box.low i = omega (arith, inside.low i h, inside.high i h, one i h) in
-      ap (λ (t : ℕ). int_at p.cost i *ℤ pos t) same)
+    let same : nat_at x i ≡ nat_at box.low i = omega (arith, inside.low i h, inside.high i h, one i h) in
+    ap (λ (t : ℕ). int_at p.cost i *ℤ pos t) same)
 
 above_before : (p : ProblemData) (box : Region) (best : Option Found) → IsOnePoint p box → IsOpenBelow p box (value_in best) (row_count p + 1) → (x : List ℕ) → NotAbove p x (value_in best) → cost_at p x ≤ℤ cost_at p box.low
 above_before p box None one none x below = absurd below
@@ -74,7 +74,7 @@ point_improves p box best found region one none point_is value_is =
     record {
       found = (rw point_is (open_feasible p box (value_in best) region one none), ap (cost_at p) point_is ∙ sym value_is);
       keeps = λ x below. rw value_is (above_before p box best one none x below);
-      covers = λ x feasible inside. omega (arith, ints, value_is, same_cost p box x one inside)
+      covers = λ x feasible inside. omega (arith, ints, value_is, same_cost p box x one inside);
     }
 
 -- one half after the other is the box
@@ -84,10 +84,10 @@ halves_improve p box branch best mid now region splits first second =
       found = second.found;
       keeps = λ x h. second.keeps x (first.keeps x h);
       covers = λ x feasible inside.
-        elim ((halves_cover p box branch region splits).covers x inside) [
-          inl here ↦ second.keeps x (first.covers x feasible here)
-        | inr there ↦ second.covers x feasible there
-        ]
+          elim ((halves_cover p box branch region splits).covers x inside) [
+            | inl here ↦ second.keeps x (first.covers x feasible here)
+            | inr there ↦ second.covers x feasible there
+          ];
     }
 
 -- each feasible point lies in the whole box
@@ -95,7 +95,7 @@ pub in_whole : (p : ProblemData) (x : List ℕ) → IsFeasible p x → IsInBox p
 in_whole p x feasible =
     record {
       low = λ i h. let none : nat_at (replicate (variables p) 0) i ≡ 0 = get_or-replicate (variables p) i 0 0 h in omega (arith, none);
-      high = feasible.within
+      high = feasible.within;
     }
 
 -- the cost of the one point is a number of 64 bits
@@ -118,7 +118,7 @@ pub both_improve : (p : ProblemData) (box lent : Region) (lower : Branch) (best 
 both_improve p box lent lower best mid now same low region splits first second =
     let P : Region → Branch → Type 0 = λ r b. Improves p (half b r) mid now in
     halves_improve p box lower best mid now region splits first
-      (subst (P box) (upper_is lower low) (subst (λ (r : Region). P r (record { var = lower.var; at = lower.at; high = true })) same second))
+    (subst (P box) (upper_is lower low) (subst (λ (r : Region). P r (record { var = lower.var; at = lower.at; high = true })) same second))
 
 -- the upper branch divides what the lower one does
 pub upper_splits : (lower : Branch) (box lent : Region) → lent ≡ box → Splits lower box → Splits (record { var = lower.var; at = lower.at; high = true }) lent

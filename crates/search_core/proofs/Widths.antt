@@ -21,10 +21,10 @@ count-lt : (f g : ℕ → ℕ) (j n : ℕ) → j < n → f j < g j → ((i : ℕ
 count-lt f g j zero within less below = absurd (omega arith)
 count-lt f g j (suc n) within less below =
     elim (cases_lt j n) [
-      inl lt ↦ omega (arith, count-lt f g j n lt less (λ i h. below i (omega arith)), below n (omega arith))
-    | inr le ↦
-      let at : n ≡ j = omega arith in
-      omega (arith, count-le f g n (λ i h. below i (omega arith)), less, ap f at, ap g at)
+      | inl lt ↦ omega (arith, count-lt f g j n lt less (λ i h. below i (omega arith)), below n (omega arith))
+      | inr le ↦
+          let at : n ≡ j = omega arith in
+          omega (arith, count-le f g n (λ i h. below i (omega arith)), less, ap f at, ap g at)
     ]
 
 upper_narrower : (box : Region) (var at : ℕ) → var < length box.low → nat_at box.low var ≤ at → at < nat_at box.high var → width (record { low = slice_set box.low var (at + 1); high = box.high }) < width box
@@ -33,10 +33,10 @@ upper_narrower box var at inside low high =
     let g = λ (i : ℕ). nat_at box.high i - nat_at box.low i in
     let here = get_or-set_same box.low var (at + 1) 0 inside in
     let less = count-lt f g var (length box.low) inside (omega (arith, here)) (λ i h.
-      elim (after_set box.low var (at + 1) i inside) [
-        inl same ↦ omega (arith, same.1, ap (nat_at box.low) same.0)
+    elim (after_set box.low var (at + 1) i inside) [
+      | inl same ↦ omega (arith, same.1, ap (nat_at box.low) same.0)
       | inr other ↦ omega (arith, other.1)
-      ]) in
+    ]) in
     omega (arith, less, ap (count_below f) (length-set box.low var (at + 1)))
 
 lower_narrower : (box : Region) (var at : ℕ) → var < length box.low → var < length box.high → nat_at box.low var ≤ at → at < nat_at box.high var → width (record { low = box.low; high = slice_set box.high var at }) < width box
@@ -45,10 +45,10 @@ lower_narrower box var at inside held low high =
     let g = λ (i : ℕ). nat_at box.high i - nat_at box.low i in
     let here = get_or-set_same box.high var at 0 held in
     count-lt f g var (length box.low) inside (omega (arith, here)) (λ i h.
-      elim (after_set box.high var at i held) [
-        inl same ↦ omega (arith, same.1, ap (nat_at box.high) same.0)
+    elim (after_set box.high var at i held) [
+      | inl same ↦ omega (arith, same.1, ap (nat_at box.high) same.0)
       | inr other ↦ omega (arith, other.1)
-      ])
+    ])
 
 narrower_at : (p : ProblemData) (box : Region) (var at : ℕ) (high : Bool) → IsRegion p box → Splits (record { var = var; at = at; high = high }) box → width (half (record { var = var; at = at; high = high }) box) < width box
 narrower_at p box var at true region splits = upper_narrower box var at splits.var splits.low splits.high

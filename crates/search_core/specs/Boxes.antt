@@ -28,5 +28,5 @@ end_at branch box = if branch.high then nat_at box.low branch.var else nat_at bo
 
 abbrev pub moved : Branch → ℕ → Region → Region
 moved branch end box = if branch.high
-  then record { low = slice_set box.low branch.var end; high = box.high }
-  else record { low = box.low; high = slice_set box.high branch.var end }
+    then record { low = slice_set box.low branch.var end; high = box.high }
+    else record { low = box.low; high = slice_set box.high branch.var end }

@@ -17,8 +17,8 @@ points_below upper (suc n) = points_below upper n * (nat_at upper n + 1)
 -- the point is feasible, the value is its cost, and no feasible point costs more; or no point is feasible
 abbrev pub IsSolved : ProblemData → Solved → Type 0
 IsSolved p (Best value point) = IsFeasible p point
-  × (cost_at p point ≡ value)
-  × ((x : List ℕ) → IsFeasible p x → cost_at p x ≤ℤ value)
+    × (cost_at p point ≡ value)
+    × ((x : List ℕ) → IsFeasible p x → cost_at p x ≤ℤ value)
 IsSolved p NoneExists = (x : List ℕ) → ¬ IsFeasible p x
 
 -- what was found is feasible, with its cost

@@ -1,9 +1,9 @@
-use Rattle.std.proofs.Common.{◌≡◌, ◌∙◌, sym, ap, inl, inr, ◌*◌, ◌-◌, ◌≤◌, string_bytes, IfOk, List, ℕ, rules, arith}
+use Rattle.std.proofs.Common.{◌≡◌, ◌∙◌, sym, ap, inl, inr, string_bytes, List, ℕ, rules}
 use Rattle.std.proofs.lemmas.Int.{to_z-of_z}
 use Rattle.std.proofs.lemmas.Result.{IfOk-weaker}
 use Rattle.std.specs.Int.{w64}
 use Rattle.std.specs.Int.RustNames.{FitsSigned}
-use Rattle.lin_bound.specs.Problem.{ProblemData, IsFeasible, cost_at}
+use Rattle.lin_bound.specs.Problem.{IsFeasible}
 use Rattle.package_query.specs.Meaning.{worth}
 use Rattle.paql_ast.specs.Asks.{query_of, rows_of}
 use Rattle.paql.specs.Answers.{AnswersQuery}

@@ -1,4 +1,4 @@
-use Rattle.std.proofs.Common.{codes, refl, ◌∙◌, ap, sym, append_assoc, ◌≡◌, ◌++◌, List, ℕ}
+use Rattle.std.proofs.Common.{codes, refl, ◌∙◌}
 use Rattle.paql.proofs.Statements.{query_parts, query_number, query_such, query_list, query_read}
 use Rattle.paql.proofs.form.query_of.Goals as goal
 

@@ -1,4 +1,4 @@
-use Rattle.std.proofs.Common.{codes, refl, ◌≡◌, ◌⊎◌, [], ◌∷◌, ◌∙◌, ap, sym, arith, length, ◌^◌, ◌+◌, ◌≤◌, ◌++◌, List, ℕ, subst}
+use Rattle.std.proofs.Common.{codes, refl, ◌∙◌, ap, arith, length, ◌^◌, ◌+◌, ◌≤◌}
 use Rattle.paql_ast.specs.declared.Query.{Query}
 use Rattle.paql.proofs.Statements.{IsEnd, few_packages, parts_of, script_insert, script_query, script_end, script_read}
 use Rattle.paql.proofs.form.script_of.Goals as goal

@@ -1,4 +1,4 @@
-use Rattle.std.proofs.Common.{◌≡◌, ◌++◌, ◌+◌, ◌∙◌, ap, drop, codes, string_bytes, get_or, rules, arith}
+use Rattle.std.proofs.Common.{◌≡◌, ◌++◌, ◌+◌, ◌∙◌, ap, drop, codes, string_bytes, get_or, arith}
 use Rattle.paql.specs.Form.{followed}
 use Rattle.paql.specs.Replies.{pair_text, pairs_text}
 use Rattle.paql.proofs.Pairs.{pairs_begin, pairs_more}

@@ -1,6 +1,6 @@
-use Rattle.std.proofs.Common.{◌≡◌, ◌+◌, sym, subst, map, replicate, length, arith}
+use Rattle.std.proofs.Common.{◌≡◌, ◌+◌, subst, map, replicate, length, arith}
 use Rattle.std.proofs.lemmas.Grind.{common_steps}
-use Rattle.lin_bound.specs.Problem.{ProblemData, IsLegal}
+use Rattle.lin_bound.specs.Problem.{IsLegal}
 use Rattle.paql.specs.Translation.{row_of, side_of, program_of}
 use Rattle.paql.proofs.Legal.{program_legal}
 use Rattle.paql.proofs.translate.program_of.Goals as goal

@@ -1,5 +1,4 @@
-use Rattle.std.proofs.Common.{rules, ◌≡◌, ◌≤◌, ◌++◌, sym, ap, ◌∙◌, append-nil, arith, [], ◌∷◌, List, ℕ}
-use Rattle.paql.specs.Translation.{package_from}
+use Rattle.std.proofs.Common.{rules, ◌≤◌, sym, append-nil, arith, []}
 use Rattle.paql.proofs.Points.{package_takes}
 use Rattle.paql.proofs.translate.put.Goals as goal
 

@@ -1,4 +1,4 @@
-use Rattle.std.proofs.Common.{List, ℕ, ◌≡◌, ◌++◌, None, Some, Option, Bor, MatchOption, ◌≢◌, ap, ◌∙◌, sym, refl}
+use Rattle.std.proofs.Common.{List, ℕ, ◌≡◌, ◌++◌, None, Some, Option, Bor, MatchOption, ◌≢◌, ap, ◌∙◌, refl}
 use Rattle.std.proofs.lemmas.Bool.Decides.{Decides-eqb}
 use Rattle.std.proofs.lemmas.Slice.Eq.{strip_prefix_is}
 use Rattle.paql.specs.Reading.{Reads}

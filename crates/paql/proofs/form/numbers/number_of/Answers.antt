@@ -1,5 +1,4 @@
-use Rattle.std.proofs.Common.{◌∙◌, ◌≡◌, ℤ, Ok}
-use Rattle.std.specs.Fmt.{signed_decimal}
+use Rattle.std.proofs.Common.{◌∙◌, ◌≡◌}
 use Rattle.paql.proofs.Decimals.{text_is_utf8, parses, over_limit, other_text}
 use Rattle.paql.proofs.form.numbers.number_of.Goals as goal
 

@@ -1,4 +1,4 @@
-use Rattle.std.proofs.Common.{pos, ◌≡◌, ◌∙◌, sym, rules, arith}
+use Rattle.std.proofs.Common.{pos, ◌∙◌, sym, rules}
 use Rattle.std.proofs.lemmas.Int.{to_z-of_z}
 use Rattle.std.specs.Int.{w64, FitsUnsignedBits}
 use Rattle.std.specs.Int.RustNames.{FitsSigned}
