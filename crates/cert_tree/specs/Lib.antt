@@ -1,0 +1,5 @@
+pub mod Records
+pub mod Trees
+pub mod Certificates
+pub mod Partial
+pub mod Laws
