@@ -1,2 +1,3 @@
 pub mod Soundness
 pub mod Bounds
+pub mod Assembled

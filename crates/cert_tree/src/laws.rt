@@ -1,5 +1,5 @@
 //! What trees show, each proved for every problem.
-ghost use Rattle.cert_tree.specs.Laws.{CertifiedIsBest, CertifiedIsEmpty, PartialBounds};
+ghost use Rattle.cert_tree.specs.Laws.{CertifiedIsBest, CertifiedIsEmpty, PartialBounds, AssembledCertifies, AssembledPartly};
 
 use lin_bound::{closed_holds_none, halves_cover, weak_duality};
 
@@ -26,4 +26,16 @@ pub fn partial_bounds()
     halves_cover();
     closed_holds_none();
     weak_duality();
+}
+
+/// Where nothing is left and each record is right, the tree made of them is a certificate.
+pub fn assembled_certifies()
+    ensures { AssembledCertifies }
+{
+}
+
+/// Where some path is left and each record is right, it is a partial certificate of as many nodes as there are records.
+pub fn assembled_partly()
+    ensures { AssembledPartly }
+{
 }

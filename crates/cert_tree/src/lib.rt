@@ -6,6 +6,8 @@ mod laws;
 mod nodes;
 mod records;
 
-pub use laws::{certified_is_best, certified_is_empty, partial_bounds};
+pub use laws::{
+    assembled_certifies, assembled_partly, certified_is_best, certified_is_empty, partial_bounds,
+};
 pub use nodes::{Tree, TreeNode};
 pub use records::{Act, Record};
