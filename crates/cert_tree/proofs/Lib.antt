@@ -1,3 +1,4 @@
 pub mod Soundness
 pub mod Bounds
 pub mod Assembled
+pub mod Laying

@@ -36,8 +36,12 @@ Laid (path ∷ paths) (Open ∷ nodes) [] = ⊥
 abbrev pub pieces_of : List Record → List (List Branch) → List Piece
 pieces_of records left = map Done records ++ map Left left
 
--- the nodes are one tree, laid from the root of the records and the left paths in some order, each of them once
-pub record IsAssembled (records : List Record) (left : List (List Branch)) (nodes : List TreeNode) : Type 0 where
+-- the nodes are one tree, laid from the root of these pieces in some order, each of them once
+pub record IsLaid (pieces : List Piece) (nodes : List TreeNode) : Type 0 where
   pub order : List Piece
-  pub all : IsPermutation (pieces_of records left) order
+  pub all : IsPermutation pieces order
   pub laid : Laid ([] ∷ []) nodes order
+
+-- the nodes are the tree that has each record at its path, an open leaf at each left path, and no other node
+abbrev pub IsAssembled : List Record → List (List Branch) → List TreeNode → Type 0
+IsAssembled records left nodes = IsLaid (pieces_of records left) nodes

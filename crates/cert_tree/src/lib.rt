@@ -2,10 +2,12 @@
 //! recorded makes one.
 #![tactic(auto)]
 
+mod assembly;
 mod laws;
 mod nodes;
 mod records;
 
+pub use assembly::assemble;
 pub use laws::{
     assembled_certifies, assembled_partly, certified_is_best, certified_is_empty, partial_bounds,
 };

@@ -34,6 +34,14 @@ impl Model for Tree {
 }
 
 impl Tree {
+    /// The tree of these nodes, which are one whole tree.
+    pub(crate) fn new(nodes: Items<TreeNode>) -> Tree
+        requires { IsWhole 1 nodes }
+        ensures { result ≡ nodes }
+    {
+        Tree { nodes }
+    }
+
     /// The nodes in preorder.
     pub fn nodes(&self) -> &[TreeNode]
         ensures nodes { result.now ≡ self.now }
