@@ -1,26 +1,25 @@
 -- What a tree that is made of records shows.
-use Rattle.std.proofs.Common.{◌≡◌, ◌≢◌, ◌⊎◌, ℕ, zero, suc, ◌+◌, ◌<◌, ◌≤◌, Bool, true, false, cond, List, [], ◌∷◌, ◌++◌, map, length, refl, sym, ◌∙◌, ap, subst, arith, inl, inr, All, Contains, IsPermutation, count_by, sum_by}
-use Rattle.std.specs.Prelude.{ℤ, Option, None, Some}
+use Rattle.std.proofs.Common.{◌≡◌, ◌≢◌, ℕ, suc, ◌+◌, ◌<◌, Bool, true, false, cond, List, [], ◌∷◌, ◌++◌, map, length, refl, ap, subst, arith, All, Contains, sum_by}
+use Rattle.std.specs.Prelude.{ℤ, Option}
 use Rattle.std.specs.List.{AllByRecursion}
-use Rattle.std.proofs.lemmas.List.Elements.{All-from_recursion, recursion_from_All, All-append, All-map, All-nil, Contains-append_right}
+use Rattle.std.proofs.lemmas.List.Elements.{recursion_from_All, All-append, All-map, All-nil, Contains-append_right}
 use Rattle.std.proofs.lemmas.List.Sorted.{All-permutation, sum_by-IsPermutation, length_permutation}
 use Rattle.std.proofs.lemmas.List.{length-append, length-map}
 use Rattle.std.proofs.lemmas.List.Sums.{sum_by-cons, sum_by-append}
 use Rattle.lin_bound.specs.Problem.{ProblemData}
-use Rattle.lin_bound.specs.Box.{whole_box, half, cut, box_at, Splits}
-use Rattle.lin_bound.specs.Bound.{Closes}
+use Rattle.lin_bound.specs.Box.{whole_box, half, cut, box_at}
 use Rattle.lin_bound.specs.declared.region.Region.{Region}
 use Rattle.lin_bound.specs.declared.path.Branch.{Branch}
 use Rattle.cert_tree.specs.declared.nodes.TreeNode.{TreeNode}
 use Rattle.cert_tree.specs.declared.nodes.TreeNode.TheVariants.{Leaf, Split, Open}
-use Rattle.cert_tree.specs.declared.records.Act.TheVariants.{Closed as ClosedAct, Split as SplitAct}
+use Rattle.cert_tree.specs.declared.records.Act.TheVariants.{Split as SplitAct}
 use Rattle.cert_tree.specs.declared.records.Record.{Record}
 use Rattle.cert_tree.specs.declared.records.Piece.{Piece}
 use Rattle.cert_tree.specs.declared.records.Piece.TheVariants.{Done, Left}
 use Rattle.cert_tree.specs.Records.{lower, upper}
-use Rattle.cert_tree.specs.Trees.{IsWhole, Laid, pieces_of, IsAssembled}
-use Rattle.cert_tree.specs.Certificates.{Certify, IsCertificate}
-use Rattle.cert_tree.specs.Partial.{PlainlyOpen, PartlyCertify, IsPartialCertificate, is_done}
+use Rattle.cert_tree.specs.Trees.{IsWhole, Laid, pieces_of}
+use Rattle.cert_tree.specs.Certificates.{Certify}
+use Rattle.cert_tree.specs.Partial.{PartlyCertify, is_done}
 use Rattle.cert_tree.specs.Laws.{IsRight, IsPlainlyRight, AssembledCertifies, AssembledPartly}
 
 -- what is laid is whole, one tree for each path
@@ -167,5 +166,5 @@ assembled_partly p best records left nodes made right more =
     record {
       each = count;
       more = open_found nodes (omega (arith, count, each, some_left left more));
-      parts = partly_laid p best ([] ∷ []) nodes made.order made.laid (recursion_from_All (PartPiece p best) made.order (All-permutation (PartPiece p best) among made.order made.all (pieces_right p best records left right)))
+      parts = partly_laid p best ([] ∷ []) nodes made.order made.laid (recursion_from_All (PartPiece p best) made.order (All-permutation (PartPiece p best) among made.order made.all (pieces_right p best records left right)));
     }

@@ -1,9 +1,9 @@
 -- How a tree is laid of pieces that fit.
-use Rattle.std.proofs.Common.{◌≡◌, ◌≢◌, ◌⊎◌, ℕ, zero, suc, ◌+◌, ◌-◌, ◌<◌, ◌≤◌, Bool, true, false, List, [], ◌∷◌, ◌++◌, map, take, reverse, length, get_or, refl, sym, ◌∙◌, ap, subst, arith, inl, inr, IsPermutation, sum_by, remove, flat_map, Some}
+use Rattle.std.proofs.Common.{◌≡◌, ◌⊎◌, ℕ, zero, suc, ◌+◌, ◌-◌, ◌<◌, ◌≤◌, Bool, true, false, List, [], ◌∷◌, ◌++◌, map, take, reverse, length, get_or, refl, sym, ◌∙◌, ap, subst, arith, inl, inr, IsPermutation, sum_by, remove, flat_map, Some}
 use Rattle.std.specs.Prelude.{slice_get, slice_index_or}
 use Rattle.std.specs.List.{HoldsAt}
 use Rattle.std.proofs.lemmas.Bool.{cases_eq, true≢false, false≢true}
-use Rattle.std.proofs.lemmas.List.{append-nil, append_assoc, reverse-append, reverse-reverse, length_push, get_or_default, take_more_same, take_all}
+use Rattle.std.proofs.lemmas.List.{append-nil, append_assoc, reverse-append, reverse-reverse, length_push, take_more_same, take_all}
 use Rattle.std.proofs.lemmas.Option.{slice_get_within, get_or_from_slice_get}
 use Rattle.std.proofs.lemmas.List.Sums.{sum_by-cons, sum_by-append, sum_by-remove}
 use Rattle.std.proofs.lemmas.List.Sorted.{IsPermutation-refl, IsPermutation-trans, IsPermutation-cons, IsPermutation-remove, sum_by-IsPermutation}
@@ -42,12 +42,12 @@ flags_same false true = inr false≢true
 branches_same : (one other : Branch) → (one ≡ other) ⊎ ¬ (one ≡ other)
 branches_same one other =
     elim (cases_eq one.var other.var) [
-      inr ne ↦ inr (λ e. ne (ap (λ (b : Branch). b.var) e))
-    | inl vars ↦ elim (cases_eq one.at other.at) [
-        inr ne ↦ inr (λ e. ne (ap (λ (b : Branch). b.at) e))
-      | inl places ↦ elim (flags_same one.high other.high) [
-          inr ne ↦ inr (λ e. ne (ap (λ (b : Branch). b.high) e))
-        | inl flags ↦ inl (fields_same one other vars places flags)
+      | inr ne ↦ inr (λ e. ne (ap (λ (b : Branch). b.var) e))
+      | inl vars ↦ elim (cases_eq one.at other.at) [
+        | inr ne ↦ inr (λ e. ne (ap (λ (b : Branch). b.at) e))
+        | inl places ↦ elim (flags_same one.high other.high) [
+          | inr ne ↦ inr (λ e. ne (ap (λ (b : Branch). b.high) e))
+          | inl flags ↦ inl (fields_same one other vars places flags)
         ]
       ]
     ]
@@ -62,10 +62,10 @@ paths_same [] (branch ∷ other) = inr (λ e. absurd (omega (arith, ap length e)
 paths_same (branch ∷ one) [] = inr (λ e. absurd (omega (arith, ap length e)))
 paths_same (first ∷ one) (second ∷ other) =
     elim (branches_same first second) [
-      inr ne ↦ inr (λ e. ne (ap (λ (path : List Branch). get_or path 0 first) e))
-    | inl heads ↦ elim (paths_same one other) [
-        inr ne ↦ inr (λ e. ne (ap (λ (path : List Branch). elim path [ [] ↦ [] | b ∷ rest ↦ rest ]) e))
-      | inl tails ↦ inl (ap (λ (b : Branch). b ∷ one) heads ∙ ap (λ (rest : List Branch). second ∷ rest) tails)
+      | inr ne ↦ inr (λ e. ne (ap (λ (path : List Branch). get_or path 0 first) e))
+      | inl heads ↦ elim (paths_same one other) [
+        | inr ne ↦ inr (λ e. ne (ap (λ (path : List Branch). elim path [ [] ↦ [] | b ∷ rest ↦ rest ]) e))
+        | inl tails ↦ inl (ap (λ (b : Branch). b ∷ one) heads ∙ ap (λ (rest : List Branch). second ∷ rest) tails)
       ]
     ]
 
@@ -78,11 +78,11 @@ at_path : (path : List Branch) (pieces : List Piece) → 0 < sum_by (weight_at (
 at_path path [] some = absurd (omega (arith, some))
 at_path path (piece ∷ pieces) some =
     elim (paths_same (path_of piece) path) [
-      inl is ↦ (0, omega arith, λ d. is)
-    | inr ne ↦
-        let none : weight_at (weight_of path) piece ≡ 0 = none_if (paths_same (path_of piece) path) ne in
-        let later = at_path path pieces (omega (arith, some, none, sum_by-cons (weight_at (weight_of path)) piece pieces)) in
-        (suc later.0, omega (arith, later.1), later.2)
+      | inl is ↦ (0, omega arith, λ d. is)
+      | inr ne ↦
+          let none : weight_at (weight_of path) piece ≡ 0 = none_if (paths_same (path_of piece) path) ne in
+          let later = at_path path pieces (omega (arith, some, none, sum_by-cons (weight_at (weight_of path)) piece pieces)) in
+          (suc later.0, omega (arith, later.1), later.2)
     ]
   where
     none_if : {A : Type 0} (choice : A ⊎ ¬ A) → ¬ A → indicator choice ≡ 0
@@ -167,11 +167,11 @@ laying_more start pending path nodes pieces place piece within stands is laying 
     record {
       fits = subst (λ (paths : List (List Branch)). Fits paths (remove pieces place)) (sym (pushed pending (children_in piece))) (fits_more pieces place piece (reverse pending) within is fits_here);
       completes = λ more rest all laid.
-        let below : Laid (children_in piece ++ reverse pending) more rest = subst (λ (paths : List (List Branch)). Laid paths more rest) (pushed pending (children_in piece)) laid in
-        let tree : Laid (path_of piece ∷ reverse pending) (node_of piece ∷ more) (piece ∷ rest) = laid_more piece (reverse pending) more rest below in
-        let whole : Laid (reverse (pending ++ path ∷ [])) (node_of piece ∷ more) (piece ∷ rest) = subst (λ (paths : List (List Branch)). Laid paths (node_of piece ∷ more) (piece ∷ rest)) (sym (popped pending path)) (subst (λ (top : List Branch). Laid (top ∷ reverse pending) (node_of piece ∷ more) (piece ∷ rest)) here tree) in
-        let order = IsPermutation-trans pieces (piece ∷ remove pieces place) (piece ∷ rest) (IsPermutation-remove pieces place piece within is) (IsPermutation-cons piece (remove pieces place) rest all) in
-        subst (IsLaid start) (sym (append_assoc nodes (node_of piece ∷ []) more)) (laying.completes (node_of piece ∷ more) (piece ∷ rest) order whole)
+          let below : Laid (children_in piece ++ reverse pending) more rest = subst (λ (paths : List (List Branch)). Laid paths more rest) (pushed pending (children_in piece)) laid in
+          let tree : Laid (path_of piece ∷ reverse pending) (node_of piece ∷ more) (piece ∷ rest) = laid_more piece (reverse pending) more rest below in
+          let whole : Laid (reverse (pending ++ path ∷ [])) (node_of piece ∷ more) (piece ∷ rest) = subst (λ (paths : List (List Branch)). Laid paths (node_of piece ∷ more) (piece ∷ rest)) (sym (popped pending path)) (subst (λ (top : List Branch). Laid (top ∷ reverse pending) (node_of piece ∷ more) (piece ∷ rest)) here tree) in
+          let order = IsPermutation-trans pieces (piece ∷ remove pieces place) (piece ∷ rest) (IsPermutation-remove pieces place piece within is) (IsPermutation-cons piece (remove pieces place) rest all) in
+          subst (IsLaid start) (sym (append_assoc nodes (node_of piece ∷ []) more)) (laying.completes (node_of piece ∷ more) (piece ∷ rest) order whole);
     }
 
 -- at the empty stack the nodes are the tree
@@ -229,8 +229,8 @@ laying_turn start old pending new path nodes written pieces seen rest place piec
     let after = laying_more start pending path nodes pieces place piece here there is before in
     let all = wrote ∙ ap (λ (one : TreeNode). nodes ++ one ∷ []) node_is in
     subst (λ (stack : List (List Branch)). IsLaying start stack written rest) (sym put)
-      (subst (λ (some : List TreeNode). IsLaying start (pending ++ reverse (children_in piece)) some rest) (sym all)
-        (subst (λ (among : List Piece). IsLaying start (pending ++ reverse (children_in piece)) (nodes ++ node_of piece ∷ []) among) (sym left) after))
+    (subst (λ (some : List TreeNode). IsLaying start (pending ++ reverse (children_in piece)) some rest) (sym all)
+    (subst (λ (among : List Piece). IsLaying start (pending ++ reverse (children_in piece)) (nodes ++ node_of piece ∷ []) among) (sym left) after))
 
 pub laying_ended : (start : List Piece) (pending : List (List Branch)) (nodes : List TreeNode) (pieces : List Piece) → pending ≡ [] → IsLaying start pending nodes pieces → IsLaid start nodes
 laying_ended start pending nodes pieces empty laying =
@@ -245,5 +245,5 @@ laid_of_gathered records left gathered pieces nodes same all made =
     record {
       order = made.order;
       all = IsPermutation-trans (pieces_of records left) pieces made.order (subst (λ (among : List Piece). IsPermutation among pieces) same all) made.all;
-      laid = made.laid
+      laid = made.laid;
     }

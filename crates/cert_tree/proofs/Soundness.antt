@@ -1,18 +1,16 @@
 -- What a certificate shows of each feasible point.
-use Rattle.std.proofs.Common.{◌≡◌, ◌⊎◌, ℕ, zero, suc, ◌+◌, ◌<◌, ◌≤◌, true, false, List, [], ◌∷◌, length, replicate, refl, sym, ◌∙◌, ap, arith, inl, inr}
+use Rattle.std.proofs.Common.{◌≡◌, ◌⊎◌, ℕ, ◌<◌, List, [], ◌∷◌, replicate, arith, inl, inr}
 use Rattle.std.proofs.lemmas.List.{length-replicate, get_or-replicate}
-use Rattle.std.specs.Prelude.{ℤ, ◌≤ℤ◌, Option, None, Some}
+use Rattle.std.specs.Prelude.{ℤ, Option, None, Some}
 use Rattle.lin_bound.specs.Sums.{nat_at}
 use Rattle.lin_bound.specs.Problem.{ProblemData, variables, cost_at, IsFeasible, IsLegal}
 use Rattle.lin_bound.specs.Box.{whole_box, half, Splits, IsRegion, IsInBox}
-use Rattle.lin_bound.specs.Bound.{Closes}
-use Rattle.lin_bound.specs.Laws.{NotAbove, ClosedHoldsNone, HalvesCover, other_half}
+use Rattle.lin_bound.specs.Laws.{NotAbove, ClosedHoldsNone, HalvesCover}
 use Rattle.lin_bound.specs.declared.region.Region.{Region}
-use Rattle.lin_bound.specs.declared.path.Branch.{Branch}
 use Rattle.cert_tree.specs.declared.nodes.TreeNode.{TreeNode}
 use Rattle.cert_tree.specs.declared.nodes.TreeNode.TheVariants.{Leaf, Split, Open}
 use Rattle.cert_tree.specs.Records.{lower, upper}
-use Rattle.cert_tree.specs.Certificates.{Certify, IsCertificate}
+use Rattle.cert_tree.specs.Certificates.{Certify}
 use Rattle.cert_tree.specs.Laws.{CertifiedIsBest, CertifiedIsEmpty}
 
 -- each box is one of the problem
@@ -38,8 +36,8 @@ half_regions cover p box boxes var at splits regions =
 pub half_lies : HalvesCover → (p : ProblemData) (box : Region) (boxes : List Region) (var at : ℕ) (x : List ℕ) → Splits (lower var at) box → IsRegion p box → LiesIn p x (box ∷ boxes) → LiesIn p x (half (lower var at) box ∷ (half (upper var at) box ∷ boxes))
 half_lies cover p box boxes var at x splits region (inl inside) =
     elim ((cover p box (lower var at) region splits).covers x inside) [
-      inl below ↦ inl below
-    | inr above ↦ inr (inl above)
+      | inl below ↦ inl below
+      | inr above ↦ inr (inl above)
     ]
 half_lies cover p box boxes var at x splits region (inr rest) = inr (inr rest)
 
@@ -64,7 +62,7 @@ whole_region p legal =
       low_each = length-replicate (variables p) 0;
       high_each = legal.upper_each;
       ordered = λ i h. omega (arith, zeros (variables p) i h);
-      within = λ i h. omega arith
+      within = λ i h. omega arith;
     }
 
 pub whole_holds : (p : ProblemData) (x : List ℕ) → IsFeasible p x → IsInBox p (whole_box p) x

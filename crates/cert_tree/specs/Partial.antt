@@ -1,5 +1,5 @@
 -- What a tree shows that is not done yet.
-use Rattle.std.specs.Prelude.{◌≡◌, ℕ, zero, suc, ◌^◌, ◌<◌, ◌≤◌, List, [], ◌∷◌, ℤ, pos, negsuc, neg_ℤ, Option, None, Some, Contains, count_by, Bool, true, false}
+use Rattle.std.specs.Prelude.{◌≡◌, ℕ, zero, suc, ◌^◌, ◌<◌, ◌≤◌, List, [], ◌∷◌, ℤ, pos, neg_ℤ, Option, None, Some, Contains, count_by, Bool, true, false}
 use Rattle.std.specs.Int.{int_max, int_min, int_div_euclid}
 use Rattle.lin_bound.specs.Sums.{nat_at}
 use Rattle.lin_bound.specs.Problem.{ProblemData, variables, row_count}

@@ -1,5 +1,5 @@
 -- The pieces of a tree on their way into it.
-use Rattle.std.specs.Prelude.{◌≡◌, ℕ, ◌+◌, ◌<◌, length, List, [], ◌∷◌, sum_by}
+use Rattle.std.specs.Prelude.{◌≡◌, ℕ, ◌+◌, ◌<◌, length, List, [], sum_by}
 use Rattle.std.specs.List.{HoldsAt}
 use Rattle.lin_bound.specs.declared.path.Branch.{Branch}
 use Rattle.cert_tree.specs.declared.nodes.TreeNode.{TreeNode}

@@ -78,19 +78,27 @@ fn node_of(alloc: Global, piece: Piece, pending: &mut Vec<Path>) -> Result<TreeN
     match act {
         Act::Closed(mult) => Ok(TreeNode::Leaf(mult)),
         Act::Split { var, at, mult } => {
-            pending.push(path.child(alloc, Branch { var, at, high: true })?)?;
-            pending.push(path.child(alloc, Branch { var, at, high: false })?)?;
+            let (lower, upper) = (
+                Branch {
+                    var,
+                    at,
+                    high: false,
+                },
+                Branch {
+                    var,
+                    at,
+                    high: true,
+                },
+            );
+            pending.push(path.child(alloc, upper)?)?;
+            pending.push(path.child(alloc, lower)?)?;
             Ok(TreeNode::Split { var, at, mult })
         }
     }
 }
 
 /// The records and the left paths in one list.
-fn gather(
-    alloc: Global,
-    records: Vec<Record>,
-    left: Vec<Path>,
-) -> Result<Vec<Piece>, AllocError>
+fn gather(alloc: Global, records: Vec<Record>, left: Vec<Path>) -> Result<Vec<Piece>, AllocError>
     ensures { IfOk result (λ pieces. pieces.items ≡ pieces_of records.items left.items) }
 {
     records
@@ -126,6 +134,5 @@ pub fn assemble(alloc: Global, records: Vec<Record>, left: Vec<Path>) -> Result<
 {
     let mut pieces = gather(alloc, records, left)?;
     pieces.sort_by(|one, other| preorder(path_of(other), path_of(one)))?;
-    let tree = lay(alloc, pieces)?;
-    Ok(tree)
+    lay(alloc, pieces)
 }

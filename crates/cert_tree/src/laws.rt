@@ -31,11 +31,9 @@ pub fn partial_bounds()
 /// Where nothing is left and each record is right, the tree made of them is a certificate.
 pub fn assembled_certifies()
     ensures { AssembledCertifies }
-{
-}
+{}
 
 /// Where some path is left and each record is right, it is a partial certificate of as many nodes as there are records.
 pub fn assembled_partly()
     ensures { AssembledPartly }
-{
-}
+{}

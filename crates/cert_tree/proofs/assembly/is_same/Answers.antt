@@ -1,4 +1,4 @@
-use Rattle.std.proofs.Common.{◌≡◌, rules, arith}
+use Rattle.std.proofs.Common.{◌≡◌, rules}
 use Rattle.cert_tree.proofs.Laying.{front_more}
 use Rattle.cert_tree.proofs.assembly.is_same.Goals as goal
 

@@ -1,4 +1,4 @@
-use Rattle.std.proofs.Common.{◌≡◌, [], rules, arith}
+use Rattle.std.proofs.Common.{◌≡◌, [], rules}
 use Rattle.cert_tree.proofs.Laying.{path_found, laying_turn, laying_ended, laid_is_whole}
 use Rattle.cert_tree.proofs.assembly.lay.Goals as goal
 
