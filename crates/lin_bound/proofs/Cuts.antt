@@ -1,10 +1,10 @@
 -- The box of a path, one branch after another.
-use Rattle.std.proofs.Common.{◌≡◌, ℕ, ◌+◌, ◌<◌, ◌≤◌, List, [], ◌∷◌, length, drop, refl, sym, ◌∙◌, ap, arith, subst, Some}
+use Rattle.std.proofs.Common.{◌≡◌, ℕ, ◌+◌, ◌≤◌, List, ◌∷◌, length, drop, ◌∙◌, ap, Some}
 use Rattle.std.specs.Prelude.{slice_get}
 use Rattle.std.proofs.lemmas.List.{drop_more, drop_all}
 use Rattle.std.proofs.lemmas.Option.{slice_get_within, get_or_from_slice_get}
 use Rattle.lin_bound.specs.Problem.{ProblemData}
-use Rattle.lin_bound.specs.Box.{whole_box, half, cut, Splits, AllSplit, IsPath, IsRegion}
+use Rattle.lin_bound.specs.Box.{whole_box, half, cut, Splits, AllSplit, IsRegion}
 use Rattle.lin_bound.specs.declared.region.Region.{Region}
 use Rattle.lin_bound.specs.declared.path.Branch.{Branch}
 use Rattle.lin_bound.proofs.Halves.{halves_cover}
@@ -31,7 +31,7 @@ cut_more p path box place branch is cutting =
     record {
       cuts = rw (left_at path place branch is) at cutting.cuts;
       splits = splits.1;
-      region = (halves_cover p box branch cutting.region splits.0).region
+      region = (halves_cover p box branch cutting.region splits.0).region;
     }
 
 -- at the path's end the box is its own

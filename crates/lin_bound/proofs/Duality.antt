@@ -1,16 +1,12 @@
 -- Weak duality: the bound is above every feasible point.
-use Rattle.std.proofs.Common.{◌≡◌, ℕ, zero, suc, ◌+◌, ◌*◌, ◌<◌, ◌≤◌, List, refl, ap, arith, mul-le-mul_left, inl, inr}
-use Rattle.std.specs.Prelude.{ℤ, pos, negsuc, ◌+ℤ◌, ◌-ℤ◌, ◌*ℤ◌, ◌≤ℤ◌, ◌<ℤ◌, Option, None, Some}
-use Rattle.std.specs.Int.{int_max}
+use Rattle.std.proofs.Common.{◌≡◌, ℕ, zero, suc, ◌≤◌, ap, arith, mul-le-mul_left}
+use Rattle.std.specs.Prelude.{ℤ, pos, negsuc, ◌+ℤ◌, ◌-ℤ◌, ◌*ℤ◌, ◌≤ℤ◌, ◌<ℤ◌, None, Some}
 use Rattle.std.proofs.lemmas.Int.{ints, clamps, by_lt_z}
 use Rattle.std.proofs.Math.IntN.{*ℤ-zero, zero-*ℤ}
 use Rattle.lin_bound.specs.Sums.{sum_below, int_at, nat_at}
-use Rattle.lin_bound.specs.Problem.{ProblemData, variables, row_count, row_of, coefficient_of, cost_at, row_at, IsFeasible}
-use Rattle.lin_bound.specs.Box.{IsInBox}
-use Rattle.lin_bound.specs.Bound.{weight, greatest, sides, side_of, part_of, bound_of, Closes}
-use Rattle.lin_bound.specs.Laws.{IsGreatest, EndsAreGreatest, WeakDuality, NotAbove, ClosedHoldsNone}
-use Rattle.lin_bound.specs.declared.region.Region.{Region}
-use Rattle.lin_bound.specs.declared.mult.Mult.{Mult}
+use Rattle.lin_bound.specs.Problem.{variables, row_count, coefficient_of, cost_at, row_at}
+use Rattle.lin_bound.specs.Bound.{weight, greatest, side_of, part_of, bound_of}
+use Rattle.lin_bound.specs.Laws.{EndsAreGreatest, WeakDuality, ClosedHoldsNone}
 use Rattle.lin_bound.proofs.Products.{mul-add_left, mul-add_right, mul-sub_left, mul_assoc, mul-mono}
 use Rattle.lin_bound.proofs.Sums.{sum-le, sum-zero}
 
@@ -23,8 +19,8 @@ below_greatest (negsuc n) low high t l h = omega (arith, ints, clamps, mul-le-mu
 greatest_reached : (w : ℤ) (low high : ℕ) → low ≤ high → (t : ℕ) × (low ≤ t) × (t ≤ high) × (greatest w low high ≡ w *ℤ pos t)
 greatest_reached w low high h =
     by_lt_z (w *ℤ pos low) (w *ℤ pos high)
-      (λ lt. (high, h, omega arith, omega (arith, ints, clamps, lt)))
-      (λ le. (low, omega arith, h, omega (arith, ints, clamps, le)))
+    (λ lt. (high, h, omega arith, omega (arith, ints, clamps, lt)))
+    (λ le. (low, omega arith, h, omega (arith, ints, clamps, le)))
 
 pub ends_are_greatest : EndsAreGreatest
 ends_are_greatest w low high h =
@@ -54,8 +50,8 @@ weak_duality p box mult x feasible inside =
 not_above : (d : ℕ) (cost z bound : ℤ) → (pos d *ℤ cost) ≤ℤ bound → bound <ℤ (pos d *ℤ (z +ℤ pos 1)) → cost ≤ℤ z
 not_above d cost z bound below closed =
     by_lt_z z cost
-      (λ lt. absurd (omega (arith, ints, below, closed, mul-mono d (z +ℤ pos 1) cost (omega (arith, ints, lt)))))
-      (λ le. le)
+    (λ lt. absurd (omega (arith, ints, below, closed, mul-mono d (z +ℤ pos 1) cost (omega (arith, ints, lt)))))
+    (λ le. le)
 
 pub closed_holds_none : ClosedHoldsNone
 closed_holds_none p box mult None x closes feasible inside =

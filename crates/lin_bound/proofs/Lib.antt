@@ -1,7 +1,8 @@
 pub mod Products
 pub mod Sums
-mod Sizes
-mod Duality
-mod OnePoint
-mod Halves
+pub mod Legal
+pub mod Sizes
+pub mod Duality
+pub mod OnePoint
+pub mod Halves
 mod Cuts

@@ -1,11 +1,11 @@
 -- A box of one point is closed by plain multipliers, where its point is no better.
-use Rattle.std.proofs.Common.{◌≡◌, ◌≢◌, ◌⊎◌, ℕ, zero, suc, ◌+◌, ◌*◌, ◌<◌, ◌≤◌, List, length, refl, sym, ◌∙◌, ap, arith, inl, inr, replicate, get_or-set_same, get_or-set_other, below_more}
+use Rattle.std.proofs.Common.{◌≡◌, ◌≢◌, ◌⊎◌, ℕ, zero, suc, ◌<◌, refl, ◌∙◌, ap, arith, inl, inr, replicate, get_or-set_same, get_or-set_other, below_more}
 use Rattle.std.specs.Prelude.{ℤ, pos, ◌+ℤ◌, ◌-ℤ◌, ◌*ℤ◌, ◌≤ℤ◌, ◌<ℤ◌, Option, None, Some, slice_set}
 use Rattle.std.proofs.lemmas.Int.{ints, clamps, by_lt_z}
 use Rattle.std.proofs.lemmas.List.{get_or-replicate, length-replicate}
-use Rattle.std.proofs.Math.IntN.{*ℤ-zero, zero-*ℤ}
+use Rattle.std.proofs.Math.IntN.{zero-*ℤ}
 use Rattle.lin_bound.specs.Sums.{sum_below, int_at, nat_at}
-use Rattle.lin_bound.specs.Problem.{ProblemData, variables, row_count, row_of, coefficient_of, cost_at, row_at, IsFeasible}
+use Rattle.lin_bound.specs.Problem.{ProblemData, variables, row_count, coefficient_of, cost_at, row_at, IsFeasible}
 use Rattle.lin_bound.specs.Box.{IsRegion, IsInBox, IsOnePoint}
 use Rattle.lin_bound.specs.Bound.{share_of, weight, greatest, sides, side_of, part_of, bound_of, Closes, plain}
 use Rattle.lin_bound.specs.Laws.{NotAbove, OnePointCloses}
@@ -39,7 +39,7 @@ greatest_same : (w : ℤ) (low high : ℕ) → low ≡ high → greatest w low h
 greatest_same w low high e = omega (arith, ints, clamps, ap (λ (t : ℕ). w *ℤ pos t) e)
 
 -- the bound under number 0 is the cost of the point
-bound_of_cost : (p : ProblemData) (box : Region) → IsOnePoint p box → bound_of p box (plain p 0) ≡ cost_at p box.low
+pub bound_of_cost : (p : ProblemData) (box : Region) → IsOnePoint p box → bound_of p box (plain p 0) ≡ cost_at p box.low
 bound_of_cost p box one =
     let m = row_count p in
     let mult = plain p 0 in
@@ -47,14 +47,14 @@ bound_of_cost p box one =
     let no_shares : (i : ℕ) → sum_below (share_of p mult i) m ≡ pos 0 = λ i. sum-zero (share_of p mult i) m (λ j h. times_none (nat_at mult.lambda j) (coefficient_of p j i) (none_at m j h)) in
     let weight_is : (i : ℕ) → weight p mult i ≡ int_at p.cost i = λ i. omega (arith, ints, no_shares i) in
     let parts = sum-ext (part_of p box mult) (λ (i : ℕ). int_at p.cost i *ℤ pos (nat_at box.low i)) (variables p)
-      (λ i h. greatest_same (weight p mult i) (nat_at box.low i) (nat_at box.high i) (one i h) ∙ ap (λ (w : ℤ). w *ℤ pos (nat_at box.low i)) (weight_is i)) in
+    (λ i h. greatest_same (weight p mult i) (nat_at box.low i) (nat_at box.high i) (one i h) ∙ ap (λ (w : ℤ). w *ℤ pos (nat_at box.low i)) (weight_is i)) in
     omega (arith, ints, no_sides, parts)
 
 minus_times : (a : ℤ) (t : ℕ) → (pos 0 -ℤ a) *ℤ pos t ≡ pos 0 -ℤ (a *ℤ pos t)
 minus_times a t = omega (arith, ints, mul-sub_left (pos 0) a (pos t), zero-*ℤ (pos t))
 
 -- the bound under a row's number is what the point leaves of that row
-bound_of_row : (p : ProblemData) (box : Region) (j : ℕ) → j < row_count p → IsOnePoint p box → bound_of p box (plain p (suc j)) ≡ int_at p.rhs j -ℤ row_at p j box.low
+pub bound_of_row : (p : ProblemData) (box : Region) (j : ℕ) → j < row_count p → IsOnePoint p box → bound_of p box (plain p (suc j)) ≡ int_at p.rhs j -ℤ row_at p j box.low
 bound_of_row p box j below one =
     let m = row_count p in
     let mult = plain p (suc j) in
@@ -63,7 +63,7 @@ bound_of_row p box j below one =
     let weight_is : (i : ℕ) → weight p mult i ≡ pos 0 -ℤ coefficient_of p j i = λ i. omega (arith, ints, shares i, zero-*ℤ (int_at p.cost i)) in
     let term = λ (i : ℕ). coefficient_of p j i *ℤ pos (nat_at box.low i) in
     let parts = sum-ext (part_of p box mult) (λ (i : ℕ). pos 0 -ℤ term i) (variables p)
-      (λ i h. greatest_same (weight p mult i) (nat_at box.low i) (nat_at box.high i) (one i h) ∙ (ap (λ (w : ℤ). w *ℤ pos (nat_at box.low i)) (weight_is i) ∙ minus_times (coefficient_of p j i) (nat_at box.low i))) in
+    (λ i h. greatest_same (weight p mult i) (nat_at box.low i) (nat_at box.high i) (one i h) ∙ (ap (λ (w : ℤ). w *ℤ pos (nat_at box.low i)) (weight_is i) ∙ minus_times (coefficient_of p j i) (nat_at box.low i))) in
     omega (arith, ints, side, parts, sum-sub (λ (i : ℕ). pos 0) term (variables p), sum-zero (λ (i : ℕ). pos 0) (variables p) (λ i h. refl))
 
 -- each number of one list is at most that of the other, or one is above
@@ -71,18 +71,18 @@ all_or_one : (f g : ℕ → ℤ) (n : ℕ) → ((j : ℕ) → j < n → f j ≤�
 all_or_one f g zero = inl (λ j h. absurd (omega arith))
 all_or_one f g (suc n) =
     elim (all_or_one f g n) [
-      inl all ↦ by_lt_z (g n) (f n)
-        (λ lt. inr (n, omega arith, lt))
-        (λ le. inl (λ j h. below_more (λ (k : ℕ). f k ≤ℤ g k) n all le j (omega (arith, h))))
-    | inr one ↦ inr (one.0, omega (arith, one.1), one.2)
+      | inl all ↦ by_lt_z (g n) (f n)
+          (λ lt. inr (n, omega arith, lt))
+          (λ le. inl (λ j h. below_more (λ (k : ℕ). f k ≤ℤ g k) n all le j (omega (arith, h))))
+      | inr one ↦ inr (one.0, omega (arith, one.1), one.2)
     ]
 
 -- the one point, where it keeps each row
-point_feasible : (p : ProblemData) (box : Region) → IsRegion p box → ((j : ℕ) → j < row_count p → row_at p j box.low ≤ℤ int_at p.rhs j) → IsFeasible p box.low
+pub point_feasible : (p : ProblemData) (box : Region) → IsRegion p box → ((j : ℕ) → j < row_count p → row_at p j box.low ≤ℤ int_at p.rhs j) → IsFeasible p box.low
 point_feasible p box region keeps =
     record { each = region.low_each; within = λ i h. omega (arith, region.ordered i h, region.within i h); keeps = keeps }
 
-point_inside : (p : ProblemData) (box : Region) → IsRegion p box → IsInBox p box box.low
+pub point_inside : (p : ProblemData) (box : Region) → IsRegion p box → IsInBox p box box.low
 point_inside p box region = record { low = λ i h. omega arith; high = region.ordered }
 
 -- a broken row closes the box for every value
@@ -99,6 +99,6 @@ cost_closes p box (Some z) one below = omega (arith, ints, bound_of_cost p box o
 pub one_point_closes : OnePointCloses
 one_point_closes p box best region one none =
     elim (all_or_one (λ (j : ℕ). row_at p j box.low) (int_at p.rhs) (row_count p)) [
-      inl keeps ↦ (0, omega arith, cost_closes p box best one (none box.low (point_feasible p box region keeps) (point_inside p box region)))
-    | inr broken ↦ (suc (broken.0), omega (arith, broken.1), row_closes p box best (broken.0) (broken.1) (broken.2) one)
+      | inl keeps ↦ (0, omega arith, cost_closes p box best one (none box.low (point_feasible p box region keeps) (point_inside p box region)))
+      | inr broken ↦ (suc (broken.0), omega (arith, broken.1), row_closes p box best (broken.0) (broken.1) (broken.2) one)
     ]

@@ -1,12 +1,12 @@
 -- No sum of the bound is too large for the machine's numbers.
-use Rattle.std.proofs.Common.{◌≡◌, ℕ, zero, suc, ◌+◌, ◌*◌, ◌^◌, ◌<◌, ◌≤◌, refl, ap, arith, add-one, List, mul-le-mul, mul-le-mul_right}
+use Rattle.std.proofs.Common.{◌≡◌, ℕ, zero, suc, ◌+◌, ◌*◌, ◌^◌, ◌<◌, ◌≤◌, arith, add-one, List, mul-le-mul, mul-le-mul_right}
 use Rattle.std.specs.Prelude.{ℤ, pos, ◌+ℤ◌, ◌-ℤ◌, ◌*ℤ◌, unsigned_abs, FitsSigned}
 use Rattle.std.specs.Int.{int_max}
 use Rattle.std.proofs.lemmas.Int.{ints, clamps, unsigned_abs-mul, fits_signed_from_abs, to_z-of_z}
 use mir.Syntax.{w64, w128}
 use mir.Val.{SFits, to_z, of_z}
 use Rattle.lin_bound.specs.Sums.{sum_below, count_below, int_at, nat_at}
-use Rattle.lin_bound.specs.Problem.{ProblemData, variables, row_count, row_of, coefficient_of, load, IsLegal}
+use Rattle.lin_bound.specs.Problem.{value_at, load, ProblemData, variables, row_count, coefficient_of, IsLegal}
 use Rattle.lin_bound.specs.Box.{IsRegion}
 use Rattle.lin_bound.specs.Bound.{IsMult, share_of, weight, greatest, part_of}
 use Rattle.lin_bound.specs.declared.region.Region.{Region}
@@ -64,7 +64,7 @@ loads u c l a d m (suc n) =
 -- the size that the weight of a variable can have
 abbrev pub mass : ProblemData → Mult → ℕ → ℕ
 mass p mult i = mult.d * unsigned_abs (int_at p.cost i)
-  + count_below (λ (j : ℕ). nat_at mult.lambda j * unsigned_abs (coefficient_of p j i)) (row_count p)
+    + count_below (λ (j : ℕ). nat_at mult.lambda j * unsigned_abs (coefficient_of p j i)) (row_count p)
 
 weight_size : (p : ProblemData) (mult : Mult) (i : ℕ) → unsigned_abs (weight p mult i) ≤ mass p mult i
 weight_size p mult i =
@@ -85,8 +85,8 @@ reach_small p mult legal ok n h =
     let cost_load : count_below by_cost n ≤ 2 ^ 60 = omega (arith, count-more by_cost n (variables p) h, legal.cost_load) in
     let cost : mult.d * count_below by_cost n ≤ 2 ^ 30 * 2 ^ 60 = mul-le-mul ok.cost cost_load in
     let row : (j : ℕ) → j < m → nat_at mult.lambda j * count_below (by_row j) n ≤ 2 ^ 30 * 2 ^ 60 = λ j below.
-      let row_load : count_below (by_row j) n ≤ 2 ^ 60 = omega (arith, count-more (by_row j) n (variables p) h, legal.row_loads j below) in
-      mul-le-mul (ok.small j below) row_load in
+    let row_load : count_below (by_row j) n ≤ 2 ^ 60 = omega (arith, count-more (by_row j) n (variables p) h, legal.row_loads j below) in
+    mul-le-mul (ok.small j below) row_load in
     let rows = count-most (λ (j : ℕ). nat_at mult.lambda j * count_below (by_row j) n) (2 ^ 30 * 2 ^ 60) m row in
     omega (arith, whole, cost, rows, legal.few_rows)
 
@@ -108,8 +108,8 @@ part_size p box mult region i h =
     let at_low : unsigned_abs w * low ≤ mass p mult i * upper = mul-le-mul (weight_size p mult i) low_within in
     let at_high : unsigned_abs w * high ≤ mass p mult i * upper = mul-le-mul (weight_size p mult i) high_within in
     abs-max (w *ℤ pos low) (w *ℤ pos high) (reach p mult i)
-      (omega (arith, at_low, unsigned_abs-mul w (pos low)))
-      (omega (arith, at_high, unsigned_abs-mul w (pos high)))
+    (omega (arith, at_low, unsigned_abs-mul w (pos low)))
+    (omega (arith, at_high, unsigned_abs-mul w (pos high)))
 
 -- what the first variables add is small
 pub parts_small : (p : ProblemData) (box : Region) (mult : Mult) → IsLegal p → IsRegion p box → IsMult p mult → (n : ℕ) → n ≤ variables p → unsigned_abs (sum_below (part_of p box mult) n) ≤ 65 * 2 ^ 90
@@ -143,3 +143,9 @@ fits_small z small = fits_signed_from_abs w128 z (omega (arith, small))
 -- a sum that fits is what the machine adds
 pub stored : (total gain sum : ℤ) → SFits w128 gain → SFits w128 (total +ℤ gain) → total +ℤ gain ≡ sum → to_z w128 (of_z w128 (total +ℤ to_z w128 (of_z w128 gain))) ≡ sum
 stored total gain sum gain_fits sum_fits is = simp to_z-of_z is
+
+-- a value within the uppers is no larger than the load
+pub value_small : (upper x : List ℕ) (coefficients : List ℤ) (n : ℕ) → ((i : ℕ) → i < n → nat_at x i ≤ nat_at upper i) → unsigned_abs (value_at coefficients x n) ≤ load upper coefficients n
+value_small upper x coefficients n within =
+    abs-sum_below (λ (i : ℕ). int_at coefficients i *ℤ pos (nat_at x i)) (λ (i : ℕ). nat_at upper i * unsigned_abs (int_at coefficients i)) n
+    (λ i h. omega (arith, unsigned_abs-mul (int_at coefficients i) (pos (nat_at x i)), mul-le-mul_right (unsigned_abs (int_at coefficients i)) (within i h)))

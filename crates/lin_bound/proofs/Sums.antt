@@ -3,7 +3,7 @@ use Rattle.std.proofs.Common.{◌≡◌, ◌≢◌, ℕ, zero, suc, ◌+◌, ◌
 use Rattle.std.specs.Prelude.{ℤ, pos, ◌+ℤ◌, ◌-ℤ◌, ◌*ℤ◌, ◌≤ℤ◌}
 use Rattle.std.proofs.lemmas.Int.{ints}
 use Rattle.std.proofs.lemmas.Bool.{cases_lt}
-use Rattle.std.proofs.Math.IntN.{*ℤ_comm, *ℤ-zero, zero-*ℤ}
+use Rattle.std.proofs.Math.IntN.{*ℤ-zero, zero-*ℤ}
 use Rattle.lin_bound.specs.Sums.{sum_below, count_below}
 use Rattle.lin_bound.proofs.Products.{mul-add_left, mul-add_right}
 
@@ -30,10 +30,10 @@ pub sum-single : (f : ℕ → ℤ) (j n : ℕ) → j < n → ((i : ℕ) → i < 
 sum-single f j zero within others = absurd (omega arith)
 sum-single f j (suc n) within others =
     elim (cases_lt j n) [
-      inl lt ↦ omega (arith, ints, sum-single f j n lt (λ i h ne. others i (omega arith) ne), others n (omega arith) (λ e. absurd (omega (arith, e))))
-    | inr le ↦
-      let at : n ≡ j = omega arith in
-      omega (arith, ints, sum-zero f n (λ i h. others i (omega arith) (λ e. absurd (omega (arith, e, at)))), ap f at)
+      | inl lt ↦ omega (arith, ints, sum-single f j n lt (λ i h ne. others i (omega arith) ne), others n (omega arith) (λ e. absurd (omega (arith, e))))
+      | inr le ↦
+          let at : n ≡ j = omega arith in
+          omega (arith, ints, sum-zero f n (λ i h. others i (omega arith) (λ e. absurd (omega (arith, e, at)))), ap f at)
     ]
 
 -- the sum of sums
@@ -82,9 +82,9 @@ count-more f m zero h = omega (arith, ap (count_below f) (none m h))
     none m h = omega arith
 count-more f m (suc n) h =
     elim (cases_lt m (suc n)) [
-      inl lt ↦ omega (arith, count-more f m n (omega arith))
-    | inr le ↦
-      let at : m ≡ suc n = omega arith in omega (arith, ap (count_below f) at)
+      | inl lt ↦ omega (arith, count-more f m n (omega arith))
+      | inr le ↦
+          let at : m ≡ suc n = omega arith in omega (arith, ap (count_below f) at)
     ]
 
 -- equal at each place

@@ -1,5 +1,5 @@
 -- The dual bound of a box under multipliers, and when it closes the box.
-use Rattle.std.specs.Prelude.{◌≡◌, ℕ, zero, suc, ◌^◌, ◌<◌, ◌≤◌, List, length, replicate, slice_set, ℤ, pos, ◌+ℤ◌, ◌-ℤ◌, ◌*ℤ◌, Option, None, Some}
+use Rattle.std.specs.Prelude.{◌≡◌, ℕ, zero, suc, ◌^◌, ◌<◌, ◌≤◌, length, replicate, slice_set, ℤ, pos, ◌+ℤ◌, ◌-ℤ◌, ◌*ℤ◌, Option, None, Some}
 use Rattle.std.specs.Int.{int_max}
 use lib.Signed.{◌<ℤ◌}
 use Rattle.lin_bound.specs.Sums.{sum_below, int_at, nat_at}

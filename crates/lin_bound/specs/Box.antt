@@ -18,8 +18,8 @@ pub record Splits (branch : Branch) (box : Region) : Type 0 where
 -- the half `x_var <= at`, or with `high` the half `x_var >= at + 1`
 abbrev pub half : Branch → Region → Region
 half branch box = if branch.high
-  then record { low = slice_set box.low branch.var (branch.at + 1); high = box.high }
-  else record { low = box.low; high = slice_set box.high branch.var branch.at }
+    then record { low = slice_set box.low branch.var (branch.at + 1); high = box.high }
+    else record { low = box.low; high = slice_set box.high branch.var branch.at }
 
 -- the box after each branch in turn
 abbrev pub cut : Region → List Branch → Region

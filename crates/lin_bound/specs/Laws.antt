@@ -18,7 +18,7 @@ EndsAreGreatest = (w : ℤ) (low high : ℕ) → low ≤ high → IsGreatest w l
 -- Weak duality: d times the cost of a feasible point of the box is at most the bound.
 abbrev pub WeakDuality : Type 0
 WeakDuality = (p : ProblemData) (box : Region) (mult : Mult) (x : List ℕ)
-  → IsFeasible p x → IsInBox p box x → (pos mult.d *ℤ cost_at p x) ≤ℤ bound_of p box mult
+    → IsFeasible p x → IsInBox p box x → (pos mult.d *ℤ cost_at p x) ≤ℤ bound_of p box mult
 
 -- a feasible point with this cost or less, or none at all
 abbrev pub NotAbove : ProblemData → List ℕ → Option ℤ → Type 0
@@ -28,14 +28,14 @@ NotAbove p x (Some z) = cost_at p x ≤ℤ z
 -- A closed box holds no feasible point above the value, and where there is no value it holds none.
 abbrev pub ClosedHoldsNone : Type 0
 ClosedHoldsNone = (p : ProblemData) (box : Region) (mult : Mult) (best : Option ℤ) (x : List ℕ)
-  → Closes p box mult best → IsFeasible p x → IsInBox p box x → NotAbove p x best
+    → Closes p box mult best → IsFeasible p x → IsInBox p box x → NotAbove p x best
 
 -- A box of one point that holds no feasible point above the value is closed by some plain multipliers.
 abbrev pub OnePointCloses : Type 0
 OnePointCloses = (p : ProblemData) (box : Region) (best : Option ℤ)
-  → IsRegion p box → IsOnePoint p box
-  → ((x : List ℕ) → IsFeasible p x → IsInBox p box x → NotAbove p x best)
-  → (number : ℕ) × (number ≤ row_count p) × Closes p box (plain p number) best
+    → IsRegion p box → IsOnePoint p box
+    → ((x : List ℕ) → IsFeasible p x → IsInBox p box x → NotAbove p x best)
+    → (number : ℕ) × (number ≤ row_count p) × Closes p box (plain p number) best
 
 -- the branch to the other half
 abbrev pub other_half : Branch → Branch
@@ -49,4 +49,4 @@ pub record IsHalved (p : ProblemData) (branch : Branch) (box : Region) : Type 0 
 
 abbrev pub HalvesCover : Type 0
 HalvesCover = (p : ProblemData) (box : Region) (branch : Branch)
-  → IsRegion p box → Splits branch box → IsHalved p branch box
+    → IsRegion p box → Splits branch box → IsHalved p branch box

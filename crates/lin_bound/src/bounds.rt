@@ -77,7 +77,11 @@ fn gains(problem: &Problem, region: &Region, mult: &Mult) -> i128
     let high = region.high.as_slice();
     let mut total: i128 = 0;
     for variable in 0..problem.variables() {
-        total += gain(weight(problem, mult, variable), low[variable], high[variable]);
+        total += gain(
+            weight(problem, mult, variable),
+            low[variable],
+            high[variable],
+        );
     }
     total
 }

@@ -16,3 +16,6 @@ pub use mult::{Mult, plain_mult};
 pub use path::{Branch, Path};
 pub use problem::{Point, Problem};
 pub use region::{Region, box_of};
+
+#[cfg(test)]
+mod tests;

@@ -15,8 +15,8 @@ pub struct Region {
 }
 
 impl Region {
-    /// Keeps the half of the box that the branch names.
-    fn narrow(&mut self, branch: Branch)
+    /// Keeps the half of the box that the branch names, and takes no memory.
+    pub fn narrow(&mut self, branch: Branch)
         requires same { length self.old.low ≡ length self.old.high }
         requires splits { Splits branch self.old }
         ensures { self.new ≡ half branch self.old }

@@ -6,5 +6,6 @@ pub mod Legal
 pub mod Pairs
 pub mod Points
 pub mod Powers
+pub mod Solved
 pub mod Statements
 pub mod Translated

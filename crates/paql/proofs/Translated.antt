@@ -77,7 +77,7 @@ module _ (script : Script) where
   values : List ℤ
   values = script.insert.values
 
-  point_of : (x : List ℕ) → IsFeasible (program_of script) x → IsPoint script x
+  pub point_of : (x : List ℕ) → IsFeasible (program_of script) x → IsPoint script x
   point_of x is = record {
     each = is.each;
     within = λ (i : ℕ) (l : i < length x).

@@ -5,7 +5,7 @@ ghost use Rattle.paql.specs.Translation.{IsAnswered};
 
 use crate::{form, replies, translate};
 use paql_ast::Script;
-use search_core::{Solved, SoloSolver};
+use search_core::{SoloSolver, Solved};
 use std::alloc::{AllocError, Global};
 
 // Enough nodes for the most packages that a script of the form can have, which is 1,000.

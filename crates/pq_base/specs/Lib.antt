@@ -1,3 +1,4 @@
+pub mod Adapters
 pub mod Outside
 pub mod Memory
 pub mod Decimal

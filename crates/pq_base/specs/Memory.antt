@@ -1,5 +1,5 @@
 -- Sources and sinks over memory, as contracts see them, and what a call of each does.
-use Rattle.std.specs.Prelude.{◌≡◌, ◌≢◌, ℕ, ◌+◌, ◌-◌, ◌^◌, ◌<◌, ◌↔◌, min, List, ◌++◌, length, take, drop, Contains}
+use Rattle.std.specs.Prelude.{◌≡◌, ℕ, ◌+◌, ◌-◌, ◌^◌, ◌<◌, ◌↔◌, min, List, ◌++◌, length, take, drop, Contains}
 use Rattle.pq_base.specs.declared.outside.Pull.{Pull}
 use Rattle.pq_base.specs.declared.outside.Pull.TheVariants as pulls
 use Rattle.pq_base.specs.declared.outside.Push.{Push}

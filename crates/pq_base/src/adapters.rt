@@ -1,6 +1,7 @@
 //! The real outside: any reader of std as a source, any writer as a sink. What they read and write
 //! is known only where std's trait tells it, which files, sockets and terminals don't.
 ghost use Rattle.std.specs.Prelude.{◌≡◌};
+ghost use Rattle.pq_base.specs.Adapters.{reader_of, read_errors, writer_of, write_errors};
 
 use crate::outside::{Gate, GatePoint, Pull, Push, Sink, Source};
 use std::io::{Read, Write};
@@ -15,8 +16,8 @@ pub struct ReadSource<R: Read + Drop> {
 impl<R: Read + Drop> ReadSource<R> {
     /// The reader, with no error so far.
     pub fn new(inner: R) -> Self
-        ensures reader { result.inner ≡ inner }
-        ensures faults { result.faults ≡ 0 }
+        ensures reader { reader_of result ≡ inner }
+        ensures faults { read_errors result ≡ 0 }
     {
         ReadSource { inner, faults: 0 }
     }
@@ -48,8 +49,8 @@ pub struct WriteSink<W: Write + Drop> {
 impl<W: Write + Drop> WriteSink<W> {
     /// The writer, with no error so far.
     pub fn new(inner: W) -> Self
-        ensures writer { result.inner ≡ inner }
-        ensures faults { result.faults ≡ 0 }
+        ensures writer { writer_of result ≡ inner }
+        ensures faults { write_errors result ≡ 0 }
     {
         WriteSink { inner, faults: 0 }
     }

@@ -49,7 +49,7 @@ fn split_sign(text: &[u8]) -> (bool, &[u8])
 }
 
 /// The digits at the front of a text, and what stands behind them.
-fn split_digits(text: &[u8]) -> (&[u8], &[u8])
+pub fn split_digits(text: &[u8]) -> (&[u8], &[u8])
     ensures whole { text.now ≡ result.0.now ++ result.1.now }
     ensures digits { AllDigits 10 result.0.now }
     ensures all { ¬ BeginsWithDigit result.1.now }

@@ -1,12 +1,11 @@
 //! What every other crate stands on: the outside as traits, and numbers as text.
 #![tactic(auto)]
 
-pub mod decimal;
-pub mod scaled;
-
 mod adapters;
+pub mod decimal;
 mod memory;
 mod outside;
+pub mod scaled;
 mod sure;
 
 pub use adapters::{OpenGate, ReadSource, WriteSink};

@@ -153,3 +153,6 @@ impl Sink for MemSink {
         Push::Took(piece.len())
     }
 }
+
+#[cfg(test)]
+mod tests;

@@ -1,6 +1,6 @@
-use Rattle.std.proofs.Common.{◌≡◌, pos, arith, rules, add-one}
+use Rattle.std.proofs.Common.{arith, rules}
 use Rattle.std.proofs.lemmas.Int.{ints, to_z-of_z}
-use mir.Syntax.{w64, w128}
+use mir.Syntax.{w64}
 use mir.Val.{SFits}
 use Rattle.lin_bound.proofs.bounds.shares.Goals as goal
 

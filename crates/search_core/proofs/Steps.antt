@@ -1,0 +1,104 @@
+-- The steps of a search: a closed box, a box of one point, two halves, and the whole.
+use Rattle.std.proofs.Common.{◌≡◌, ℕ, zero, suc, ◌+◌, ◌^◌, ◌<◌, ◌≤◌, List, length, refl, sym, ap, ◌∙◌, arith, inl, inr, replicate}
+use Rattle.std.specs.Prelude.{ℤ, pos, ◌+ℤ◌, ◌*ℤ◌, ◌≤ℤ◌, ◌<ℤ◌, Option, None, Some, unsigned_abs, FitsSigned}
+use Rattle.std.proofs.lemmas.Int.{ints, by_lt_z, fits_signed_from_abs}
+use Rattle.std.proofs.lemmas.List.{get_or-replicate}
+use Rattle.std.proofs.Math.IntN.{zero-*ℤ}
+use mir.Syntax.{w64}
+use Rattle.lin_bound.specs.Sums.{int_at, nat_at}
+use Rattle.lin_bound.specs.Problem.{ProblemData, variables, row_count, cost_at, row_at, IsLegal, IsFeasible}
+use Rattle.lin_bound.specs.Box.{whole_box, half, Splits, IsRegion, IsInBox, IsOnePoint}
+use Rattle.lin_bound.specs.Bound.{bound_of, Closes, plain}
+use Rattle.lin_bound.specs.Laws.{NotAbove, other_half}
+use Rattle.lin_bound.specs.declared.region.Region.{Region}
+use Rattle.lin_bound.specs.declared.path.Branch.{Branch}
+use Rattle.lin_bound.proofs.Sums.{sum-ext}
+use Rattle.lin_bound.proofs.Sizes.{value_small}
+use Rattle.lin_bound.proofs.Duality.{closed_holds_none}
+use Rattle.lin_bound.proofs.OnePoint.{bound_of_cost, bound_of_row, point_feasible}
+use Rattle.lin_bound.proofs.Halves.{halves_cover}
+use Rattle.search_core.specs.Boxes.{HasNoRoom, IsClosed, IsOpenBelow}
+use Rattle.search_core.specs.Search.{IsFound, value_in, Improves}
+use Rattle.search_core.specs.declared.solved.Found.{Found}
+
+-- a closed box has nothing better
+pub closed_improves : (p : ProblemData) (box : Region) (best : Option Found) → IsFound p best → IsClosed p box (value_in best) → Improves p box best best
+closed_improves p box best found closed =
+    record {
+      found = found;
+      keeps = λ x h. h;
+      covers = λ x feasible inside. closed_holds_none p box (plain p (closed.0)) (value_in best) x (closed.2) feasible inside
+    }
+
+-- a box with no room is one point
+pub one_point : (p : ProblemData) (box : Region) → IsRegion p box → HasNoRoom box → IsOnePoint p box
+one_point p box region none i h = omega (arith, none i (omega (arith, h, region.low_each)), region.ordered i h)
+
+-- a broken row is one whose multipliers close the box
+broken_closes : (p : ProblemData) (box : Region) (best : Option ℤ) (j : ℕ) → j < row_count p → int_at p.rhs j <ℤ row_at p j box.low → IsOnePoint p box → Closes p box (plain p (suc j)) best
+broken_closes p box None j below broken one = (refl, omega (arith, ints, bound_of_row p box j below one, broken))
+broken_closes p box (Some z) j below broken one =
+    omega (arith, ints, bound_of_row p box j below one, broken, zero-*ℤ (z +ℤ pos 1))
+
+-- where no row's multipliers close it, the point is feasible
+open_feasible : (p : ProblemData) (box : Region) (best : Option ℤ) → IsRegion p box → IsOnePoint p box → IsOpenBelow p box best (row_count p + 1) → IsFeasible p box.low
+open_feasible p box best region one none =
+    point_feasible p box region (λ j h.
+      by_lt_z (int_at p.rhs j) (row_at p j box.low)
+        (λ lt. absurd (none (suc j) (omega (arith, h)) (broken_closes p box best j h lt one)))
+        (λ le. le))
+
+-- where the cost doesn't, its cost is above the value
+open_above : (p : ProblemData) (box : Region) (z : ℤ) → IsOnePoint p box → ¬ Closes p box (plain p 0) (Some z) → z ≤ℤ cost_at p box.low
+open_above p box z one none =
+    by_lt_z (cost_at p box.low) (z +ℤ pos 1)
+      (λ lt. absurd (none (omega (arith, ints, bound_of_cost p box one, lt))))
+      (λ le. omega (arith, ints, le))
+
+-- each point of the box costs the same
+same_cost : (p : ProblemData) (box : Region) (x : List ℕ) → IsOnePoint p box → IsInBox p box x → cost_at p x ≡ cost_at p box.low
+same_cost p box x one inside =
+    sum-ext (λ (i : ℕ). int_at p.cost i *ℤ pos (nat_at x i)) (λ (i : ℕ). int_at p.cost i *ℤ pos (nat_at box.low i)) (variables p) (λ i h.
+      let same : nat_at x i ≡ nat_at box.low i = omega (arith, inside.low i h, inside.high i h, one i h) in
+      ap (λ (t : ℕ). int_at p.cost i *ℤ pos t) same)
+
+above_before : (p : ProblemData) (box : Region) (best : Option Found) → IsOnePoint p box → IsOpenBelow p box (value_in best) (row_count p + 1) → (x : List ℕ) → NotAbove p x (value_in best) → cost_at p x ≤ℤ cost_at p box.low
+above_before p box None one none x below = absurd below
+above_before p box (Some found) one none x below =
+    omega (arith, ints, below, open_above p box found.value one (none 0 (omega arith)))
+
+-- the point of an open box is the best so far
+pub point_improves : (p : ProblemData) (box : Region) (best : Option Found) (found : Found) → IsRegion p box → IsOnePoint p box → IsOpenBelow p box (value_in best) (row_count p + 1) → found.point ≡ box.low → found.value ≡ cost_at p box.low → Improves p box best (Some found)
+point_improves p box best found region one none point_is value_is =
+    record {
+      found = (rw point_is (open_feasible p box (value_in best) region one none), ap (cost_at p) point_is ∙ sym value_is);
+      keeps = λ x below. rw value_is (above_before p box best one none x below);
+      covers = λ x feasible inside. omega (arith, ints, value_is, same_cost p box x one inside)
+    }
+
+-- one half after the other is the box
+pub halves_improve : (p : ProblemData) (box : Region) (branch : Branch) (best mid now : Option Found) → IsRegion p box → Splits branch box → Improves p (half branch box) best mid → Improves p (half (other_half branch) box) mid now → Improves p box best now
+halves_improve p box branch best mid now region splits first second =
+    record {
+      found = second.found;
+      keeps = λ x h. second.keeps x (first.keeps x h);
+      covers = λ x feasible inside.
+        elim ((halves_cover p box branch region splits).covers x inside) [
+          inl here ↦ second.keeps x (first.covers x feasible here)
+        | inr there ↦ second.covers x feasible there
+        ]
+    }
+
+-- each feasible point lies in the whole box
+pub in_whole : (p : ProblemData) (x : List ℕ) → IsFeasible p x → IsInBox p (whole_box p) x
+in_whole p x feasible =
+    record {
+      low = λ i h. let none : nat_at (replicate (variables p) 0) i ≡ 0 = get_or-replicate (variables p) i 0 0 h in omega (arith, none);
+      high = feasible.within
+    }
+
+-- the cost of the one point is a number of 64 bits
+pub cost_fits : (p : ProblemData) (box : Region) (bound : ℤ) → IsLegal p → IsRegion p box → IsOnePoint p box → bound ≡ bound_of p box (plain p 0) → FitsSigned w64 bound
+cost_fits p box bound legal region one bound_is =
+    let size : unsigned_abs (cost_at p box.low) ≤ 2 ^ 60 = omega (arith, legal.cost_load, value_small p.upper box.low p.cost (variables p) (λ i h. omega (arith, region.ordered i h, region.within i h))) in
+    rw (bound_is ∙ bound_of_cost p box one) (fits_signed_from_abs w64 (cost_at p box.low) (omega (arith, size)))

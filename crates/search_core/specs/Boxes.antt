@@ -1,0 +1,32 @@
+-- What a box is judged by, and the end of it that a branch moves.
+use Rattle.std.specs.Prelude.{◌≡◌, ℕ, ◌<◌, ◌≤◌, length, slice_set, if◌then◌else◌, ℤ, Option}
+use Rattle.lin_bound.specs.Sums.{nat_at}
+use Rattle.lin_bound.specs.Problem.{ProblemData, row_count}
+use Rattle.lin_bound.specs.Bound.{Closes, plain}
+use Rattle.lin_bound.specs.declared.region.Region.{Region}
+use Rattle.lin_bound.specs.declared.path.Branch.{Branch}
+
+-- the variable can be more than one number in the box
+abbrev pub HasRoom : Region → ℕ → Type 0
+HasRoom box variable = (variable < length box.low) × (nat_at box.low variable < nat_at box.high variable)
+
+-- and here none can
+abbrev pub HasNoRoom : Region → Type 0
+HasNoRoom box = (i : ℕ) → i < length box.low → nat_at box.high i ≤ nat_at box.low i
+
+-- some plain multipliers close the box
+abbrev pub IsClosed : ProblemData → Region → Option ℤ → Type 0
+IsClosed p box best = (number : ℕ) × (number ≤ row_count p) × Closes p box (plain p number) best
+
+-- the plain multipliers of the numbers below n don't
+abbrev pub IsOpenBelow : ProblemData → Region → Option ℤ → ℕ → Type 0
+IsOpenBelow p box best n = (number : ℕ) → number < n → ¬ Closes p box (plain p number) best
+
+-- the end of the box that a branch moves, and the box with that end elsewhere
+abbrev pub end_at : Branch → Region → ℕ
+end_at branch box = if branch.high then nat_at box.low branch.var else nat_at box.high branch.var
+
+abbrev pub moved : Branch → ℕ → Region → Region
+moved branch end box = if branch.high
+  then record { low = slice_set box.low branch.var end; high = box.high }
+  else record { low = box.low; high = slice_set box.high branch.var end }
