@@ -13,3 +13,6 @@ pub use laws::{
 };
 pub use nodes::{Tree, TreeNode};
 pub use records::{Act, Record};
+
+#[cfg(test)]
+mod tests;
