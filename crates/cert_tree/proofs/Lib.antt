@@ -1,0 +1,5 @@
+pub mod Soundness
+pub mod Bounds
+pub mod Assembled
+pub mod Laying
+pub mod Balance

@@ -1,0 +1,6 @@
+pub mod Records
+pub mod Trees
+pub mod Pieces
+pub mod Certificates
+pub mod Partial
+pub mod Laws

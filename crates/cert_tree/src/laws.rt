@@ -1,0 +1,39 @@
+//! What trees show, each proved for every problem.
+ghost use Rattle.cert_tree.specs.Laws.{CertifiedIsBest, CertifiedIsEmpty, PartialBounds, AssembledCertifies, AssembledPartly};
+
+use lin_bound::{closed_holds_none, halves_cover, weak_duality};
+
+/// No feasible point is greater than a feasible point whose value a tree certifies.
+pub fn certified_is_best()
+    ensures { CertifiedIsBest }
+{
+    halves_cover();
+    closed_holds_none();
+}
+
+/// No point is feasible where a tree certifies that there is no value.
+pub fn certified_is_empty()
+    ensures { CertifiedIsEmpty }
+{
+    halves_cover();
+    closed_holds_none();
+}
+
+/// No feasible point is greater than what a partial certificate leaves possible.
+pub fn partial_bounds()
+    ensures { PartialBounds }
+{
+    halves_cover();
+    closed_holds_none();
+    weak_duality();
+}
+
+/// Where nothing is left and each record is right, the tree made of them is a certificate.
+pub fn assembled_certifies()
+    ensures { AssembledCertifies }
+{}
+
+/// Where some path is left and each record is right, it is a partial certificate of as many nodes as there are records.
+pub fn assembled_partly()
+    ensures { AssembledPartly }
+{}

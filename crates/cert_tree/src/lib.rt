@@ -1,0 +1,18 @@
+//! Certificates of a search over boxes: whole trees of nodes in preorder, what they show, and how what a search
+//! recorded makes one.
+#![tactic(auto)]
+
+mod assembly;
+mod laws;
+mod nodes;
+mod records;
+
+pub use assembly::assemble;
+pub use laws::{
+    assembled_certifies, assembled_partly, certified_is_best, certified_is_empty, partial_bounds,
+};
+pub use nodes::{Tree, TreeNode};
+pub use records::{Act, Record};
+
+#[cfg(test)]
+mod tests;
