@@ -1,5 +1,5 @@
 -- What a box is judged by, and the end of it that a branch moves.
-use Rattle.std.specs.Prelude.{◌≡◌, ℕ, ◌<◌, ◌≤◌, length, slice_set, if◌then◌else◌, ℤ, Option}
+use Rattle.std.specs.Prelude.{ℕ, ◌<◌, ◌≤◌, length, slice_set, if◌then◌else◌, ℤ, Option}
 use Rattle.lin_bound.specs.Sums.{nat_at}
 use Rattle.lin_bound.specs.Problem.{ProblemData, row_count}
 use Rattle.lin_bound.specs.Bound.{Closes, plain}
