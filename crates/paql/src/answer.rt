@@ -45,3 +45,6 @@ fn query_line(alloc: Global, script: &Script) -> Result<String, AllocError>
         }
     }
 }
+
+#[cfg(test)]
+mod tests;
