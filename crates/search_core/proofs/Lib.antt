@@ -1,2 +1,3 @@
 mod Widths
 mod Steps
+pub mod Nodes

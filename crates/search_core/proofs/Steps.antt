@@ -1,6 +1,6 @@
 -- The steps of a search: a closed box, a box of one point, two halves, and the whole.
-use Rattle.std.proofs.Common.{◌≡◌, ℕ, suc, ◌+◌, ◌^◌, ◌<◌, ◌≤◌, List, refl, sym, ap, ◌∙◌, arith, inl, inr, replicate, below_more, subst, Bool, true, false}
-use Rattle.std.specs.Prelude.{ℤ, pos, ◌+ℤ◌, ◌*ℤ◌, ◌≤ℤ◌, ◌<ℤ◌, Option, None, Some, unsigned_abs, FitsSigned, not}
+use Rattle.std.proofs.Common.{◌≡◌, ℕ, suc, ◌+◌, ◌^◌, ◌<◌, ◌≤◌, List, refl, sym, ap, ◌∙◌, arith, inl, inr, replicate, below_more, subst}
+use Rattle.std.specs.Prelude.{ℤ, pos, ◌+ℤ◌, ◌*ℤ◌, ◌≤ℤ◌, ◌<ℤ◌, Option, None, Some, unsigned_abs, FitsSigned}
 use Rattle.std.proofs.lemmas.Int.{ints, by_lt_z, fits_signed_from_abs}
 use Rattle.std.proofs.lemmas.List.{get_or-replicate}
 use Rattle.std.proofs.Math.IntN.{zero-*ℤ}
@@ -18,17 +18,19 @@ use Rattle.lin_bound.proofs.Sizes.{value_small}
 use Rattle.lin_bound.proofs.Duality.{closed_holds_none}
 use Rattle.lin_bound.proofs.OnePoint.{bound_of_cost, bound_of_row, point_feasible}
 use Rattle.lin_bound.proofs.Halves.{halves_cover}
-use Rattle.search_core.specs.Boxes.{HasNoRoom, IsClosed, IsOpenBelow}
+use Rattle.cert_tree.specs.Records.{lower, upper}
+use Rattle.search_core.specs.Boxes.{HasNoRoom, IsOpenBelow}
+use Rattle.search_core.specs.Nodes.{IsAbove, IsBetter}
 use Rattle.search_core.specs.Search.{IsFound, value_in, Improves}
 use Rattle.search_core.specs.declared.solved.Found.{Found}
 
 -- a closed box has nothing better
-pub closed_improves : (p : ProblemData) (box : Region) (best : Option Found) → IsFound p best → IsClosed p box (value_in best) → Improves p box best best
-closed_improves p box best found closed =
+pub closed_improves : (p : ProblemData) (box : Region) (mult : Mult) (best : Option Found) → IsFound p best → Closes p box mult (value_in best) → Improves p box best best
+closed_improves p box mult best found closed =
     record {
       found = found;
       keeps = λ x h. h;
-      covers = λ x feasible inside. closed_holds_none p box (plain p (closed.0)) (value_in best) x (closed.2) feasible inside;
+      covers = λ x feasible inside. closed_holds_none p box mult (value_in best) x closed feasible inside;
     }
 
 -- a box with no room is one point
@@ -42,19 +44,12 @@ broken_closes p box (Some z) j below broken one =
     omega (arith, ints, bound_of_row p box j below one, broken, zero-*ℤ (z +ℤ pos 1))
 
 -- where no row's multipliers close it, the point is feasible
-open_feasible : (p : ProblemData) (box : Region) (best : Option ℤ) → IsRegion p box → IsOnePoint p box → IsOpenBelow p box best (row_count p + 1) → IsFeasible p box.low
+pub open_feasible : (p : ProblemData) (box : Region) (best : Option ℤ) → IsRegion p box → IsOnePoint p box → IsOpenBelow p box best (row_count p + 1) → IsFeasible p box.low
 open_feasible p box best region one none =
     point_feasible p box region (λ j h.
     by_lt_z (int_at p.rhs j) (row_at p j box.low)
     (λ lt. absurd (none (suc j) (omega (arith, h)) (broken_closes p box best j h lt one)))
     (λ le. le))
-
--- where the cost doesn't, its cost is above the value
-open_above : (p : ProblemData) (box : Region) (z : ℤ) → IsOnePoint p box → ¬ Closes p box (plain p 0) (Some z) → z ≤ℤ cost_at p box.low
-open_above p box z one none =
-    by_lt_z (cost_at p box.low) (z +ℤ pos 1)
-    (λ lt. absurd (none (omega (arith, ints, bound_of_cost p box one, lt))))
-    (λ le. omega (arith, ints, le))
 
 -- each point of the box costs the same
 same_cost : (p : ProblemData) (box : Region) (x : List ℕ) → IsOnePoint p box → IsInBox p box x → cost_at p x ≡ cost_at p box.low
@@ -63,18 +58,17 @@ same_cost p box x one inside =
     let same : nat_at x i ≡ nat_at box.low i = omega (arith, inside.low i h, inside.high i h, one i h) in
     ap (λ (t : ℕ). int_at p.cost i *ℤ pos t) same)
 
-above_before : (p : ProblemData) (box : Region) (best : Option Found) → IsOnePoint p box → IsOpenBelow p box (value_in best) (row_count p + 1) → (x : List ℕ) → NotAbove p x (value_in best) → cost_at p x ≤ℤ cost_at p box.low
-above_before p box None one none x below = absurd below
-above_before p box (Some found) one none x below =
-    omega (arith, ints, below, open_above p box found.value one (none 0 (omega arith)))
+above_before : (p : ProblemData) (box : Region) (best : Option ℤ) (x : List ℕ) → IsAbove (cost_at p box.low) best → NotAbove p x best → cost_at p x ≤ℤ cost_at p box.low
+above_before p box None x above below = absurd below
+above_before p box (Some seen) x above below = omega (arith, ints, below, above)
 
--- the point of an open box is the best so far
-pub point_improves : (p : ProblemData) (box : Region) (best : Option Found) (found : Found) → IsRegion p box → IsOnePoint p box → IsOpenBelow p box (value_in best) (row_count p + 1) → found.point ≡ box.low → found.value ≡ cost_at p box.low → Improves p box best (Some found)
-point_improves p box best found region one none point_is value_is =
+-- a better point is the best so far
+pub point_improves : (p : ProblemData) (box : Region) (best : Option Found) (found : Found) → IsBetter p box (value_in best) → found.point ≡ box.low → found.value ≡ cost_at p box.low → Improves p box best (Some found)
+point_improves p box best found better point_is value_is =
     record {
-      found = (rw point_is (open_feasible p box (value_in best) region one none), ap (cost_at p) point_is ∙ sym value_is);
-      keeps = λ x below. rw value_is (above_before p box best one none x below);
-      covers = λ x feasible inside. omega (arith, ints, value_is, same_cost p box x one inside);
+      found = (rw point_is better.feasible, ap (cost_at p) point_is ∙ sym value_is);
+      keeps = λ x below. rw value_is (above_before p box (value_in best) x better.above below);
+      covers = λ x feasible inside. omega (arith, ints, value_is, same_cost p box x better.one inside);
     }
 
 -- one half after the other is the box
@@ -109,23 +103,22 @@ pub open_more : (p : ProblemData) (box : Region) (best : Option ℤ) (n : ℕ) (
 open_more p box best n mult mult_is leaves below =
     below_more (λ (number : ℕ). ¬ Closes p box (plain p number) best) n below (λ closes. leaves (rw mult_is closes))
 
--- the branch to the upper half is the other one
-upper_is : (lower : Branch) → lower.high ≡ false → ◌≡◌ {A = Branch} (record { var = lower.var; at = lower.at; high = true }) (other_half lower)
-upper_is lower low = ap (λ (b : Bool). record { var = lower.var; at = lower.at; high = not b }) (sym low)
-
 -- the two halves of a box that was lent between them
-pub both_improve : (p : ProblemData) (box lent : Region) (lower : Branch) (best mid now : Option Found) → lent ≡ box → lower.high ≡ false → IsRegion p box → Splits lower box → Improves p (half lower box) best mid → Improves p (half (record { var = lower.var; at = lower.at; high = true }) lent) mid now → Improves p box best now
-both_improve p box lent lower best mid now same low region splits first second =
-    let P : Region → Branch → Type 0 = λ r b. Improves p (half b r) mid now in
-    halves_improve p box lower best mid now region splits first
-    (subst (P box) (upper_is lower low) (subst (λ (r : Region). P r (record { var = lower.var; at = lower.at; high = true })) same second))
+pub both_improve : (p : ProblemData) (box lent : Region) (var at : ℕ) (best mid now : Option Found) → lent ≡ box → IsRegion p box → Splits (lower var at) box → Improves p (half (lower var at) box) best mid → Improves p (half (upper var at) lent) mid now → Improves p box best now
+both_improve p box lent var at best mid now same region splits first second =
+    halves_improve p box (lower var at) best mid now region splits first
+    (subst (λ (r : Region). Improves p (half (upper var at) r) mid now) same second)
 
 -- the upper branch divides what the lower one does
-pub upper_splits : (lower : Branch) (box lent : Region) → lent ≡ box → Splits lower box → Splits (record { var = lower.var; at = lower.at; high = true }) lent
-upper_splits lower box lent same splits =
+pub upper_splits : (var at : ℕ) (box lent : Region) → lent ≡ box → Splits (lower var at) box → Splits (upper var at) lent
+upper_splits var at box lent same splits =
     rw same (record { var = splits.var; low = splits.low; high = splits.high })
 
 -- what improves on nothing in the whole box is the best of all
 pub whole_best : (p : ProblemData) (box : Region) (found : Found) → box ≡ whole_box p → Improves p box None (Some found) → IsFeasible p found.point × (cost_at p found.point ≡ found.value) × ((x : List ℕ) → IsFeasible p x → cost_at p x ≤ℤ found.value)
 whole_best p box found whole improves =
     (improves.found.0, improves.found.1, λ x feasible. improves.covers x feasible (rw whole (in_whole p x feasible)))
+
+-- what improves on nothing in the whole box, and is nothing, shows that no point is feasible
+pub whole_none : (p : ProblemData) (box : Region) → box ≡ whole_box p → Improves p box None None → (x : List ℕ) → ¬ IsFeasible p x
+whole_none p box whole improves x feasible = improves.covers x feasible (rw whole (in_whole p x feasible))

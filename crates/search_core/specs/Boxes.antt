@@ -1,7 +1,7 @@
 -- What a box is judged by, and the end of it that a branch moves.
 use Rattle.std.specs.Prelude.{ℕ, ◌<◌, ◌≤◌, length, slice_set, if◌then◌else◌, ℤ, Option}
 use Rattle.lin_bound.specs.Sums.{nat_at}
-use Rattle.lin_bound.specs.Problem.{ProblemData, row_count}
+use Rattle.lin_bound.specs.Problem.{ProblemData}
 use Rattle.lin_bound.specs.Bound.{Closes, plain}
 use Rattle.lin_bound.specs.declared.region.Region.{Region}
 use Rattle.lin_bound.specs.declared.path.Branch.{Branch}
@@ -10,15 +10,16 @@ use Rattle.lin_bound.specs.declared.path.Branch.{Branch}
 abbrev pub HasRoom : Region → ℕ → Type 0
 HasRoom box variable = (variable < length box.low) × (nat_at box.low variable < nat_at box.high variable)
 
+-- and it is the first such variable
+pub record IsFirstRoom (box : Region) (variable : ℕ) : Type 0 where
+  pub room : HasRoom box variable
+  pub first : (i : ℕ) → i < variable → nat_at box.high i ≤ nat_at box.low i
+
 -- and here none can
 abbrev pub HasNoRoom : Region → Type 0
 HasNoRoom box = (i : ℕ) → i < length box.low → nat_at box.high i ≤ nat_at box.low i
 
--- some plain multipliers close the box
-abbrev pub IsClosed : ProblemData → Region → Option ℤ → Type 0
-IsClosed p box best = (number : ℕ) × (number ≤ row_count p) × Closes p box (plain p number) best
-
--- the plain multipliers of the numbers below n don't
+-- the plain multipliers of the numbers below n don't close the box
 abbrev pub IsOpenBelow : ProblemData → Region → Option ℤ → ℕ → Type 0
 IsOpenBelow p box best n = (number : ℕ) → number < n → ¬ Closes p box (plain p number) best
 

@@ -1,38 +1,19 @@
 //! How a box is judged, split and put back.
-ghost use Rattle.std.specs.Prelude.{◌≡◌, ◌+◌, ◌/◌, ◌^◌, ◌<◌, false, length, IfOk, MatchOption, MatchBool};
-ghost use Rattle.lin_bound.specs.Problem.{row_count, cost_at, IsFeasible};
+ghost use Rattle.std.specs.Prelude.{◌≡◌, ◌+◌, ◌/◌, ◌<◌, length, IfOk, MatchOption};
+ghost use Rattle.lin_bound.specs.Problem.{cost_at};
 ghost use Rattle.lin_bound.specs.Sums.{nat_at};
-ghost use Rattle.lin_bound.specs.Box.{IsRegion, IsOnePoint, Splits};
-ghost use Rattle.search_core.specs.Boxes.{HasRoom, HasNoRoom, IsClosed, IsOpenBelow, end_at, moved};
+ghost use Rattle.lin_bound.specs.Box.{IsRegion, IsOnePoint};
+ghost use Rattle.search_core.specs.Boxes.{HasRoom, IsFirstRoom, HasNoRoom, end_at, moved};
 
 use crate::solved::Found;
-use lin_bound::{Branch, Point, Problem, Region, bound, closes, plain_mult};
+use lin_bound::{Branch, Point, Problem, Region, bound, plain_mult};
 use sqlite_items::Items;
 use std::alloc::{AllocError, Global};
-
-/// Whether some plain multipliers close the box.
-pub fn is_closed(
-    alloc: Global,
-    problem: &Problem,
-    region: &Region,
-    best: Option<i64>,
-) -> Result<bool, AllocError>
-    requires { IsRegion problem.now region.now }
-    ensures { IfOk result (λ yes. MatchBool yes (IsClosed problem.now region.now best) (IsOpenBelow problem.now region.now best (row_count problem.now + 1))) }
-{
-    for number in 0..problem.row_count() + 1 {
-        let mult = plain_mult(alloc, problem, number)?;
-        if closes(problem, region, &mult, best) {
-            return Ok(true);
-        }
-    }
-    Ok(false)
-}
 
 /// The first variable with more than one count in the box.
 pub fn first_wide(region: &Region) -> Option<usize>
     requires { length region.now.low ≡ length region.now.high }
-    ensures { MatchOption result (HasNoRoom region.now) (λ variable. HasRoom region.now variable) }
+    ensures { MatchOption result (HasNoRoom region.now) (λ variable. IsFirstRoom region.now variable) }
 {
     let low = region.low.as_slice();
     let high = region.high.as_slice();
@@ -44,23 +25,15 @@ pub fn first_wide(region: &Region) -> Option<usize>
     None
 }
 
-/// The branch to the lower half of the box at a variable, cut in the middle.
-pub fn lower_half(region: &Region, variable: usize) -> Branch
+/// The number in the middle of a variable's counts, rounded down.
+pub fn middle_of(region: &Region, variable: usize) -> u64
     requires same { length region.now.low ≡ length region.now.high }
-    requires few { length region.now.low < 2 ^ 32 }
     requires room { HasRoom region.now variable }
-    ensures splits { Splits result region.now }
-    ensures var { result.var ≡ variable }
-    ensures at { result.at ≡ (nat_at region.now.low variable + nat_at region.now.high variable) / 2 }
-    ensures low { result.high ≡ false }
+    ensures { result ≡ (nat_at region.now.low variable + nat_at region.now.high variable) / 2 }
 {
     let low = region.low.as_slice()[variable];
     let high = region.high.as_slice()[variable];
-    Branch {
-        var: variable as u32,
-        at: low + (high - low) / 2,
-        high: false,
-    }
+    low + (high - low) / 2
 }
 
 /// The end of the box that the branch moves.

@@ -2,9 +2,12 @@
 #![tactic(auto)]
 
 mod boxes;
+mod multipliers;
+mod node;
 mod solved;
 mod solver;
 
+pub use node::{Handled, Proposal, Work, handle_node, split_place};
 pub use solved::Solved;
 pub use solver::SoloSolver;
 

@@ -2,9 +2,11 @@
 ghost use Rattle.std.specs.Prelude.{◌≡◌, ◌-◌, ◌*◌, ◌≤◌, IfOk, OnOk};
 ghost use Rattle.lin_bound.specs.Problem.{variables};
 ghost use Rattle.lin_bound.specs.Box.{half, IsRegion, Splits};
+ghost use Rattle.lin_bound.specs.Bound.{IsMult};
 ghost use Rattle.search_core.specs.Search.{IsFound, Improves, IsSolved, points_below};
 
-use crate::boxes::{end_of, first_wide, is_closed, lower_half, move_end, point_of};
+use crate::boxes::{end_of, move_end, point_of};
+use crate::node::{Handled, Proposal, Work, handle_node};
 use crate::solved::{Found, Solved, best_value};
 use lin_bound::{Branch, Path, Problem, Region, box_of};
 use std::alloc::{AllocError, Global};
@@ -27,7 +29,9 @@ impl SoloSolver {
         ensures { IfOk result (λ solved. IsSolved problem.now solved) }
     {
         let mut region = box_of(alloc, problem, &Path::new(alloc))?;
-        match improve(alloc, problem, &mut region, None)? {
+        let mut work = Work::new(alloc, problem)?;
+        let proposal = Proposal::plain(alloc, problem)?;
+        match improve(alloc, problem, &proposal, &mut work, &mut region, None)? {
             Some(found) => Ok(Solved::Best {
                 value: found.value,
                 point: found.point,
@@ -42,29 +46,37 @@ impl SoloSolver {
 fn improve(
     alloc: Global,
     problem: &Problem,
+    proposal: &Proposal,
+    work: &mut Work,
     region: &mut Region,
     best: Option<Found>,
 ) -> Result<Option<Found>, AllocError>
+    requires proposal { IsMult problem.now proposal.now.mult }
+    requires work { IsMult problem.now work.old.mult }
     requires region { IsRegion problem.now region.old }
     requires best { IsFound problem.now best }
+    ensures work { IsMult problem.now work.new.mult }
     ensures same { OnOk result (region.new ≡ region.old) }
     ensures better { IfOk result (λ now. Improves problem.now region.old best now) }
 {
-    if is_closed(alloc, problem, region, best_value(&best))? {
-        return Ok(best);
+    match handle_node(problem, region, best_value(&best), proposal, work) {
+        Handled::Closed => Ok(best),
+        Handled::Better => Ok(Some(point_of(alloc, problem, region)?)),
+        Handled::Split { var, at } => {
+            let lower = Branch {
+                var,
+                at,
+                high: false,
+            };
+            let upper = Branch {
+                var,
+                at,
+                high: true,
+            };
+            let best = improve_half(alloc, problem, proposal, work, region, lower, best)?;
+            improve_half(alloc, problem, proposal, work, region, upper, best)
+        }
     }
-    let _legal = problem.variables();
-    let Some(variable) = first_wide(region) else {
-        return Ok(Some(point_of(alloc, problem, region)?));
-    };
-    let lower = lower_half(region, variable);
-    let upper = Branch {
-        var: lower.var,
-        at: lower.at,
-        high: true,
-    };
-    let best = improve_half(alloc, problem, region, lower, best)?;
-    improve_half(alloc, problem, region, upper, best)
 }
 
 /// The same of one half of the box.
@@ -72,19 +84,24 @@ fn improve(
 fn improve_half(
     alloc: Global,
     problem: &Problem,
+    proposal: &Proposal,
+    work: &mut Work,
     region: &mut Region,
     branch: Branch,
     best: Option<Found>,
 ) -> Result<Option<Found>, AllocError>
+    requires proposal { IsMult problem.now proposal.now.mult }
+    requires work { IsMult problem.now work.old.mult }
     requires region { IsRegion problem.now region.old }
     requires splits { Splits branch region.old }
     requires best { IsFound problem.now best }
+    ensures work { IsMult problem.now work.new.mult }
     ensures same { OnOk result (region.new ≡ region.old) }
     ensures better { IfOk result (λ now. Improves problem.now (half branch region.old) best now) }
 {
     let end = end_of(region, branch);
     region.narrow(branch);
-    let best = improve(alloc, problem, region, best)?;
+    let best = improve(alloc, problem, proposal, work, region, best)?;
     move_end(region, branch, end);
     Ok(best)
 }

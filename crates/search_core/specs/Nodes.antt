@@ -1,0 +1,62 @@
+-- What comes of one box, and where a box is split.
+use Rattle.std.specs.Prelude.{◌≡◌, ℕ, ◌+◌, ◌/◌, ℤ, Option, None, Some, ◌⊎◌}
+use lib.Signed.{◌<ℤ◌}
+use Rattle.lin_bound.specs.Sums.{nat_at}
+use Rattle.lin_bound.specs.Problem.{ProblemData, cost_at, IsFeasible}
+use Rattle.lin_bound.specs.Box.{Splits, IsOnePoint}
+use Rattle.lin_bound.specs.Bound.{Closes}
+use Rattle.lin_bound.specs.declared.region.Region.{Region}
+use Rattle.lin_bound.specs.declared.mult.Mult.{Mult}
+use Rattle.cert_tree.specs.Records.{lower}
+use Rattle.cert_tree.specs.Partial.{PlainlyOpen}
+use Rattle.search_core.specs.Boxes.{IsFirstRoom, HasNoRoom}
+use Rattle.search_core.specs.declared.node.Proposal.{Proposal}
+use Rattle.search_core.specs.declared.node.Handled.{Handled}
+use Rattle.search_core.specs.declared.node.Handled.TheVariants.{Closed, Split, Better}
+
+-- the middle of the first variable with room
+pub record IsFirstMiddle (box : Region) (var at : ℕ) : Type 0 where
+  pub first : IsFirstRoom box var
+  pub middle : at ≡ (nat_at box.low var + nat_at box.high var) / 2
+
+-- the place proposed, where that divides the box
+pub record IsProposed (box : Region) (proposal : Proposal) (var at : ℕ) : Type 0 where
+  pub var_is : var ≡ proposal.var
+  pub at_is : at ≡ proposal.at
+  pub splits : Splits (lower proposal.var proposal.at) box
+
+-- and where it doesn't, the middle of the first variable with room
+abbrev pub IsFallback : Region → Proposal → ℕ → ℕ → Type 0
+IsFallback box proposal var at = ¬ Splits (lower proposal.var proposal.at) box × IsFirstMiddle box var at
+
+abbrev pub IsSplitAt : Region → Proposal → ℕ → ℕ → Type 0
+IsSplitAt box proposal var at = IsProposed box proposal var at ⊎ IsFallback box proposal var at
+
+-- a box without room is not split
+abbrev pub IsSplitPlace : Region → Proposal → Option (ℕ × ℕ) → Type 0
+IsSplitPlace box proposal None = HasNoRoom box
+IsSplitPlace box proposal (Some place) = IsSplitAt box proposal place.0 place.1
+
+-- the cost is above the value, where there is one
+abbrev pub IsAbove : ℤ → Option ℤ → Type 0
+IsAbove cost None = Unit {0}
+IsAbove cost (Some seen) = seen <ℤ cost
+
+-- the box is one point that is feasible and costs more than the value
+pub record IsBetter (p : ProblemData) (box : Region) (seen : Option ℤ) : Type 0 where
+  pub one : IsOnePoint p box
+  pub feasible : IsFeasible p box.low
+  pub above : IsAbove (cost_at p box.low) seen
+
+-- neither the multipliers proposed nor plain ones close the box, and it has more than one point
+pub record IsSplit (p : ProblemData) (box : Region) (seen : Option ℤ) (proposal : Proposal) (chosen : Mult) (var at : ℕ) : Type 0 where
+  pub chosen_is : chosen ≡ proposal.mult
+  pub unclosed : ¬ Closes p box proposal.mult seen
+  pub plainly : PlainlyOpen p box seen
+  pub place : IsSplitAt box proposal var at
+
+-- What comes of a box: it is closed by the multipliers chosen, or split, or a better point.
+abbrev pub IsHandled : ProblemData → Region → Option ℤ → Proposal → Mult → Handled → Type 0
+IsHandled p box seen proposal chosen Closed = Closes p box chosen seen
+IsHandled p box seen proposal chosen (Split var at) = IsSplit p box seen proposal chosen var at
+IsHandled p box seen proposal chosen Better = IsBetter p box seen
