@@ -1,6 +1,12 @@
 //! The trees of the statements that a script has: a table of one column of whole numbers, its rows,
-//! and a query over them. What a query asks for is in `specs/`.
+//! and a query over them. What a query asks for is in `specs/`. The modules have the trees of the whole
+//! language.
 #![tactic(auto)]
+
+pub mod aggregates;
+pub mod predicates;
+pub mod queries;
+pub mod statements;
 
 use sqlite_items::Items;
 

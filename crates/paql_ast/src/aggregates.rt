@@ -1,0 +1,36 @@
+//! The trees of aggregates, and of the sums that they stand in.
+
+use crate::predicates::{ColumnName, Pred};
+use pq_base::Scaled;
+use schema_types::Text;
+
+/// What is summed over the copies of a package.
+#[derive(Debug, Drop)]
+pub enum Plain {
+    /// `COUNT(name.*)`. The count of the query's own package has no name here, however it is spelled.
+    Count(Option<Text>),
+    /// `SUM(column)`
+    Sum(ColumnName),
+}
+
+/// An aggregate, with `only` over the copies that meet a predicate: `(SELECT plain FROM name WHERE pred)`.
+/// The name behind FROM is kept as it is written.
+#[derive(Drop)]
+pub struct Agg {
+    pub plain: Plain,
+    pub only: Option<(Text, Pred)>,
+}
+
+/// A number, or an aggregate with the factor in front of it, where one is written.
+#[derive(Drop)]
+pub enum Term {
+    Number(Scaled),
+    Agg { factor: Option<Scaled>, agg: Agg },
+}
+
+/// A term of a sum, with a minus in front or not.
+#[derive(Drop)]
+pub struct SumItem {
+    pub minus: bool,
+    pub term: Term,
+}
