@@ -1,0 +1,1 @@
+-- Lemmas on the numbers that texts of digits are.

@@ -1,0 +1,6 @@
+//! The parser of PaQL: from the bytes of a statement to its tree.
+#![tactic(auto)]
+
+mod bytes;
+mod numbers;
+mod source;
