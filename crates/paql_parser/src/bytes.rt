@@ -49,10 +49,10 @@ fn undoubled(alloc: Global, bytes: &[u8]) -> Result<Text, AllocError>
     for byte in bytes {
         if twin {
             twin = false;
-        } else {
-            content.push(*byte)?;
-            twin = *byte == b'\'';
+            continue;
         }
+        content.push(*byte)?;
+        twin = *byte == b'\'';
     }
     Ok(content)
 }

@@ -1,6 +1,5 @@
 //! Numbers from the digits of a text.
-ghost use Rattle.std.specs.Prelude.{◌≡◌, ℕ, ◌+◌, ◌^◌, ◌<◌, ◌≤◌, List, min, length};
-ghost use Rattle.std.specs.Option.{option_copied};
+ghost use Rattle.std.specs.Prelude.{◌≡◌, ◌^◌, ◌%◌, ◌<◌, ◌≤◌, ◌↔◌, IsTrue, min};
 ghost use Rattle.std.specs.Str.{all_ascii_digits};
 ghost use Rattle.std.specs.Str.Parse.{AllDigits, digits_value_after};
 ghost use Rattle.pq_base.specs.Decimal.{signed};
@@ -34,11 +33,14 @@ fn split_point(text: &[u8]) -> (&[u8], &[u8])
 fn without_zeros(digits: &[u8]) -> &[u8]
     ensures { result.now ≡ numerals.without_zeros digits.now }
 {
-    let mut rest = digits;
-    while let [front @ .., b'0'] = rest {
-        rest = front;
+    let mut len = digits.len();
+    while len > 0 {
+        if digits[len - 1] != b'0' {
+            return &digits[..len];
+        }
+        len -= 1;
     }
-    rest
+    &digits[..0]
 }
 
 fn is_digits(text: &[u8]) -> bool
@@ -76,15 +78,25 @@ fn with_sign(minus: bool, magnitude: u128) -> i128
     if minus { -value } else { value }
 }
 
+/// Whether a zero stands last behind the point.
+fn ends_with_zero(magnitude: u128, places: usize) -> bool
+    ensures { IsTrue result ↔ ((0 < places) × (magnitude % 10 ≡ 0)) }
+{
+    places > 0 && magnitude % 10 == 0
+}
+
 /// The number with this magnitude and so many places, where it is in its shortest form.
 fn scaled(minus: bool, magnitude: u128, places: usize) -> Option<Scaled>
     requires { magnitude ≤ 10 ^ 30 }
     ensures { result ≡ numerals.scaled (signed minus magnitude) places }
 {
-    if magnitude >= LIMIT || places > MOST_PLACES {
+    if magnitude >= LIMIT {
         return None;
     }
-    if places > 0 && magnitude % 10 == 0 {
+    if places > MOST_PLACES {
+        return None;
+    }
+    if ends_with_zero(magnitude, places) {
         return None;
     }
     Some(Scaled::new(with_sign(minus, magnitude), places as u8))
@@ -96,7 +108,10 @@ pub(crate) fn number_in(minus: bool, text: &[u8]) -> Option<Scaled>
 {
     let (whole, behind) = split_point(text);
     let fraction = without_zeros(behind);
-    if !is_digits(whole) || !is_digits(fraction) {
+    if !is_digits(whole) {
+        return None;
+    }
+    if !is_digits(fraction) {
         return None;
     }
     let magnitude = append_digits(append_digits(0, whole), fraction);
@@ -107,7 +122,10 @@ pub(crate) fn number_in(minus: bool, text: &[u8]) -> Option<Scaled>
 pub(crate) fn whole_in(text: &[u8]) -> Option<u64>
     ensures { result ≡ numerals.whole_in text.now }
 {
-    if !is_digits(text) || text.len() > MOST_WHOLE_DIGITS {
+    if !is_digits(text) {
+        return None;
+    }
+    if text.len() > MOST_WHOLE_DIGITS {
         return None;
     }
     Some(append_digits(0, text) as u64)
