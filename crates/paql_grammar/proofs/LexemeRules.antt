@@ -11,6 +11,7 @@ use Rattle.formal_grammar.proofs.Contexts.{not_none}
 use Rattle.formal_grammar.proofs.Joins.{starts_shown}
 use Rattle.paql_grammar.specs.Numerals.{scaled}
 use Rattle.paql_grammar.specs.Lexemes.{Lexeme, is, among, opens, inside, name_of, content_of, number_of, whole_of, word, name, content, number, whole}
+pub use Rattle.paql_grammar.specs.PredicateReading.{name_kinds}
 use Rattle.paql_grammar.proofs.KindSets.{sample, passes}
 
 -- ---- rules
@@ -52,10 +53,6 @@ either_some : {A : Type 0} (b c : Bool) (o p : Option A) (a : A) → (if b then 
 either_some true c o p a e = refl
 either_some false true o p a e = refl
 either_some false false o p a e = absurd (not_none (sym e))
-
--- The kinds that begin a name.
-abbrev pub name_kinds : List Kind
-name_kinds = kinds.Name ∷ kinds.QuotedName ∷ []
 
 pub starts_name : Starts (among name_kinds) (λ m. name)
 starts_name = starts_shown {view = name_of} (λ t a e. either_some (is kinds.Name t) (is kinds.QuotedName t) (Some t.bytes) (Some (inside t.bytes)) a e)

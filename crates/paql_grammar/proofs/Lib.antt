@@ -1,2 +1,4 @@
 pub mod KindSets
 pub mod LexemeRules
+pub mod Firsts
+pub mod PredicateRules

@@ -1,2 +1,4 @@
 pub mod Numerals
 pub mod Lexemes
+pub mod Predicates
+pub mod PredicateReading
