@@ -2,5 +2,6 @@
 #![tactic(auto)]
 
 mod bytes;
+mod literals;
 mod numbers;
 mod source;
