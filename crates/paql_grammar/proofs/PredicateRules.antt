@@ -31,6 +31,7 @@ use Rattle.paql_grammar.specs.PredicateReading as read
 use Rattle.paql_grammar.specs.PredicateReading.{name_kinds, operator_kinds}
 use Rattle.paql_grammar.proofs.KindSets.{sample, passes, of_is, of_among, apart_word, apart_kinds, within_word, within_kinds, starts_word, joins_word}
 use Rattle.paql_grammar.proofs.Firsts.{starts_behind, joins_behind, starts_skip}
+use Rattle.paql_grammar.proofs.PredicateLoops.{both_is, joined_is, rule_as}
 use Rattle.paql_grammar.proofs.LexemeRules.{word_rule, name_rule, content_rule, number_rule, starts_name, starts_content, starts_number}
 
 -- ---- literals
@@ -233,19 +234,17 @@ negation_rule {L = L} {n = n} x =
 
 -- single { "AND" single }
 both_rule : {L : Langs Lexeme Pred} {P : Parser Lexeme Pred} {n : ℕ} → IsRule opens L P dot n → IsRule opens (λ m. both (L m)) (read.both P) (among and_on) n
-unfolding read.both
-both_rule {n = n} x =
+both_rule {P = P} {n = n} x = rule_as (read.both P) (both_is P) (
     rule_then {q = λ parts m. gives (and_of parts)} (λ parts. joins_gives (among and_on) (and_of parts) (among and_on) (within_same (among and_on)))
     (rule_listed (is kinds.And) (among and_on) starts_one_of (apart_word kinds.And (of_is kinds.Dot) refl) (within_word kinds.And (of_among and_on) refl) (within_word kinds.Dot (of_among and_on) refl) (word_rule kinds.And n) x)
-    (λ parts. rule_gives (and_of parts) (among and_on) n)
+    (λ parts. rule_gives (and_of parts) (among and_on) n))
 
 -- both { "OR" both }
 joined_rule : {L : Langs Lexeme Pred} {P : Parser Lexeme Pred} {n : ℕ} → IsRule opens (λ m. both (L m)) P (among and_on) n → IsRule opens (λ m. joined (L m)) (read.joined P) (among or_on) n
-unfolding read.joined
-joined_rule {n = n} x =
+joined_rule {P = P} {n = n} x = rule_as (read.joined P) (joined_is P) (
     rule_then {q = λ parts m. gives (or_of parts)} (λ parts. joins_gives (among or_on) (or_of parts) (among or_on) (within_same (among or_on)))
     (rule_listed (is kinds.Or) (among or_on) starts_one_of (apart_word kinds.Or (of_among and_on) refl) (within_word kinds.Or (of_among or_on) refl) (within_kinds and_on or_on refl) (word_rule kinds.Or n) x)
-    (λ parts. rule_gives (or_of parts) (among or_on) n)
+    (λ parts. rule_gives (or_of parts) (among or_on) n))
 
 -- what stands behind an opening bracket
 abbrev inner : Lang Lexeme Pred → Lang Lexeme Pred

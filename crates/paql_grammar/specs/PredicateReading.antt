@@ -14,7 +14,7 @@ use Rattle.paql_ast.specs.declared.predicates.Pred.TheVariants as preds
 use Rattle.formal_grammar.specs.declared.stop.Why.TheVariants.{Deep}
 use Rattle.formal_grammar.specs.Parse.{Parser, ◌>>=◌, ◌>>◌, pure, stop, accept, this, when, maybe, repeat, separated}
 use Rattle.paql_grammar.specs.Lexemes.{Lexeme, is, among, opens, name_of, content_of, number_of}
-use Rattle.paql_grammar.specs.Predicates.{column_of, comparison_of, operator_of, and_parts, and_of, or_parts, or_of}
+use Rattle.paql_grammar.specs.Predicates.{column_of, comparison_of, operator_of, and_parts, or_parts}
 
 -- ---- literals and columns
 
@@ -133,10 +133,14 @@ more_and first single = do
   later ← repeat (is kinds.And) (next_and single)
   pure (flat_map and_parts (first ∷ later))
 
+-- The first part alone, where no AND follows.
+unfoldable pub and_rest : Pred → Parser Lexeme Pred → Parser Lexeme Pred
+and_rest first single = when (is kinds.And) (more_and first single >>= λ parts. pure (preds.And parts)) (pure first)
+
 unfoldable pub both : Parser Lexeme Pred → Parser Lexeme Pred
 both single = do
-  parts ← separated (is kinds.And) single
-  pure (and_of parts)
+  first ← single
+  and_rest first single
 
 abbrev pub next_or : Parser Lexeme Pred → Parser Lexeme Pred
 next_or both = do
@@ -148,10 +152,13 @@ more_or first both = do
   later ← repeat (is kinds.Or) (next_or both)
   pure (flat_map or_parts (first ∷ later))
 
+unfoldable pub or_rest : Pred → Parser Lexeme Pred → Parser Lexeme Pred
+or_rest first both = when (is kinds.Or) (more_or first both >>= λ parts. pure (preds.Or parts)) (pure first)
+
 unfoldable pub joined : Parser Lexeme Pred → Parser Lexeme Pred
 joined both = do
-  parts ← separated (is kinds.Or) both
-  pure (or_of parts)
+  first ← both
+  or_rest first both
 
 unfoldable pub bracketed : Parser Lexeme Pred → Parser Lexeme Pred
 bracketed pred = do

@@ -4,4 +4,5 @@
 mod bytes;
 mod literals;
 mod numbers;
+mod predicates;
 mod source;
