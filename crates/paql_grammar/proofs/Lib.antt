@@ -2,3 +2,5 @@ pub mod KindSets
 pub mod LexemeRules
 pub mod Firsts
 pub mod PredicateRules
+pub mod AggregateRules
+pub mod QueryRules
