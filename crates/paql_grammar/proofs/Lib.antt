@@ -3,3 +3,5 @@ pub mod LexemeRules
 pub mod Firsts
 pub mod PredicateRules
 pub mod PredicateLoops
+pub mod AggregateRules
+pub mod QueryRules

@@ -3,3 +3,7 @@ pub mod Lexemes
 pub mod Predicates
 pub mod PredicateReading
 pub mod Statements
+pub mod Aggregates
+pub mod AggregateReading
+pub mod Query
+pub mod QueryReading
