@@ -1,8 +1,10 @@
 //! The parser of PaQL: from the bytes of a statement to its tree.
 #![tactic(auto)]
 
+mod aggregates;
 mod bytes;
 mod literals;
 mod numbers;
 mod predicates;
+mod query;
 mod source;
