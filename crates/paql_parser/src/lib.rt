@@ -2,7 +2,9 @@
 #![tactic(auto)]
 
 mod bytes;
+mod changes;
 mod literals;
 mod numbers;
 mod predicates;
 mod source;
+mod tables;
