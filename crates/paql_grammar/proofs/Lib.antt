@@ -5,3 +5,4 @@ pub mod PredicateRules
 pub mod PredicateLoops
 pub mod AggregateRules
 pub mod QueryRules
+pub mod StatementRules

@@ -73,7 +73,7 @@ starts_lit : Starts (among lit_kinds) (λ m. lit)
 starts_lit = starts_or (starts_wider (within_word kinds.Text (of_among lit_kinds) refl) (starts_then starts_content)) (starts_wider (within_kinds signed_kinds lit_kinds refl) (starts_then starts_signed))
 
 -- signed | text
-lit_rule : (n : ℕ) → IsRule opens (λ m. lit) read.lit none n
+pub lit_rule : (n : ℕ) → IsRule opens (λ m. lit) read.lit none n
 unfolding read.lit
 lit_rule n = rule_when (is kinds.Text) (starts_then starts_content) (joins_starts (apart_kinds signed_kinds (of_is kinds.Text) refl) (starts_then starts_signed)) (quoted_rule n) (numeral_rule n)
 
@@ -166,7 +166,7 @@ ranged_rule of n =
     rule_seq (lit_rule n) (λ high. rule_gives (preds.Between of low high) none n))))
 
 -- lit { "," lit }
-lits_rule : (n : ℕ) → IsRule opens (λ m. listed (word kinds.Comma) lit) read.lits_in (is kinds.Comma) n
+pub lits_rule : (n : ℕ) → IsRule opens (λ m. listed (word kinds.Comma) lit) read.lits_in (is kinds.Comma) n
 unfolding read.lits_in
 lits_rule n = rule_listed (is kinds.Comma) (is kinds.Comma) starts_one_of (λ t _. refl) (within_same (is kinds.Comma)) (within_none (is kinds.Comma)) (word_rule kinds.Comma n) (lit_rule n)
 

@@ -7,3 +7,4 @@ pub mod Aggregates
 pub mod AggregateReading
 pub mod Query
 pub mod QueryReading
+pub mod StatementReading

@@ -11,6 +11,7 @@ use Rattle.paql_ast.specs.declared.statements.Statement.TheVariants as statement
 use Rattle.formal_grammar.specs.Lang.{Lang, ◌>>=◌, ◌>>◌, ◌or◌, gives, optional, listed}
 use Rattle.paql_grammar.specs.Lexemes.{Lexeme, word, name, number, whole}
 use Rattle.paql_grammar.specs.Predicates.{lit, pred}
+use Rattle.paql_grammar.specs.Query.{query}
 
 -- ---- CREATE
 
@@ -166,3 +167,23 @@ abbrev pub certificate : Lang Lexeme Statement
 certificate = do
   word kinds.Certificate
   gives statements.Certificate
+
+-- ---- all statements
+
+abbrev pub package_query : ℕ → Lang Lexeme Statement
+package_query n = do
+  asked ← query (pred n)
+  gives (statements.Query asked)
+
+-- "BEGIN" | "COMMIT" | "ROLLBACK" | "CERTIFICATE" | query
+abbrev pub session : ℕ → Lang Lexeme Statement
+session n = begin or (commit or (rollback or (certificate or package_query n)))
+
+-- update | delete | partition | vacuum | session
+abbrev pub change : ℕ → Lang Lexeme Statement
+change n = update n or (delete n or (partition or (vacuum or session n)))
+
+-- create | insert | load | update | delete | partition | vacuum | "BEGIN" | "COMMIT" | "ROLLBACK" | "CERTIFICATE" | query
+-- with at most n brackets and NOTs of a predicate open at one place
+unfoldable pub statement : ℕ → Lang Lexeme Statement
+statement n = create or (insert or (load or change n))

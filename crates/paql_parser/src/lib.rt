@@ -3,8 +3,10 @@
 
 mod aggregates;
 mod bytes;
+mod changes;
 mod literals;
 mod numbers;
 mod predicates;
 mod query;
 mod source;
+mod tables;
