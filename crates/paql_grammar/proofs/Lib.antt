@@ -6,3 +6,7 @@ pub mod PredicateLoops
 pub mod AggregateRules
 pub mod QueryRules
 pub mod StatementRules
+pub mod PrintExamples
+pub mod CanonicalLeaves
+pub mod CanonicalAggregates
+pub mod CanonicalConditions

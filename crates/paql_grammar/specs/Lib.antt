@@ -8,3 +8,7 @@ pub mod AggregateReading
 pub mod Query
 pub mod QueryReading
 pub mod StatementReading
+pub mod Spellings
+pub mod Print
+pub mod Spacing
+pub mod Canonical
