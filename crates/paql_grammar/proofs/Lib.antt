@@ -10,3 +10,4 @@ pub mod PrintExamples
 pub mod CanonicalLeaves
 pub mod CanonicalAggregates
 pub mod CanonicalConditions
+pub mod CanonicalQuery
