@@ -11,3 +11,6 @@ pub mod CanonicalLeaves
 pub mod CanonicalAggregates
 pub mod CanonicalConditions
 pub mod CanonicalQuery
+pub mod NumeralLemmas
+pub mod PrintedNumbers
+pub mod CanonicalStatements

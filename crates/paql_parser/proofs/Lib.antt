@@ -1,3 +1,2 @@
-pub mod NumeralLemmas
 pub mod TextLemmas
 pub mod SumLemmas

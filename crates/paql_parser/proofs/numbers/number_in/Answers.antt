@@ -2,7 +2,7 @@ use Rattle.std.proofs.Common.{◌∙◌, sym, ap, ◌^◌, min, length}
 use Rattle.std.specs.Str.Parse.{digits_value_after}
 use Rattle.pq_base.specs.Decimal.{signed}
 use Rattle.paql_grammar.specs.Numerals.{scaled}
-use Rattle.paql_parser.proofs.NumeralLemmas.{are_digits, number_no_whole, number_no_fraction, number_is, number_parts}
+use Rattle.paql_grammar.proofs.NumeralLemmas.{are_digits, number_no_whole, number_no_fraction, number_is, number_parts}
 use Rattle.paql_parser.proofs.numbers.number_in.Goals as goal
 
 pub returns-then-not-is_digits : goal.returns-then-not-is_digits

@@ -3,7 +3,7 @@ use Rattle.std.specs.Int.{w128}
 use Rattle.std.proofs.lemmas.Int.{to_z-of_z}
 use Rattle.pq_base.specs.Decimal.{signed}
 use Rattle.pq_base.proofs.SameNumbers.{unsigned_abs-signed}
-use Rattle.paql_parser.proofs.NumeralLemmas.{scaled_is, scaled_none, scaled_large}
+use Rattle.paql_grammar.proofs.NumeralLemmas.{scaled_is, scaled_none, scaled_large}
 use Rattle.paql_parser.proofs.numbers.scaled.Goals as goal
 
 pub returns-then-magnitude-ge-LIMIT : goal.returns-then-magnitude-ge-LIMIT

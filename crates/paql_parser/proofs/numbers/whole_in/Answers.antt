@@ -1,5 +1,5 @@
 use Rattle.std.proofs.Common.{sym, arith}
-use Rattle.paql_parser.proofs.NumeralLemmas.{are_digits, whole_small, whole_is}
+use Rattle.paql_grammar.proofs.NumeralLemmas.{are_digits, whole_small, whole_is}
 use Rattle.paql_parser.proofs.numbers.whole_in.Goals as goal
 
 pub append_digits-requires-clause-digits : goal.append_digits-requires-clause-digits

@@ -1,5 +1,5 @@
 use Rattle.std.proofs.Common.{sym, ◌∙◌, arith}
-use Rattle.paql_parser.proofs.NumeralLemmas.{zeros_end, zeros_go}
+use Rattle.paql_grammar.proofs.NumeralLemmas.{zeros_end, zeros_go}
 use Rattle.paql_parser.proofs.numbers.without_zeros.Goals as goal
 
 pub returns-then-digits-len-ne48 : goal.returns-then-digits-len-ne48
