@@ -70,9 +70,9 @@ kept whole (digit ∷ digits) number is shortest =
     let len = length (digit ∷ digits) in
     let all : take len (digit ∷ digits) ≡ digit ∷ digits = take_all len (digit ∷ digits) (le_refl len) in
     let differs : get_or (digit ∷ digits) (len - 1) 0 ≢ 48 = λ last.
-        let some : len - 1 + 1 ≡ len = omega arith in
-        let split : digit ∷ digits ≡ take (len - 1) (digit ∷ digits) ++ 48 ∷ [] = sym all ∙ (ap (λ (z : ℕ). take z (digit ∷ digits)) (sym some) ∙ (take_more (digit ∷ digits) (len - 1) 0 (omega arith) ∙ ap (λ (z : ℕ). take (len - 1) (digit ∷ digits) ++ z ∷ []) last)) in
-        shortest (omega arith) (tens (whole ++ take (len - 1) (digit ∷ digits)) number (ap (digits_value 10) (append_assoc whole (take (len - 1) (digit ∷ digits)) (48 ∷ []) ∙ ap (λ (z : List ℕ). whole ++ z) (sym split)) ∙ is)) in
+    let some : len - 1 + 1 ≡ len = omega arith in
+    let split : digit ∷ digits ≡ take (len - 1) (digit ∷ digits) ++ 48 ∷ [] = sym all ∙ (ap (λ (z : ℕ). take z (digit ∷ digits)) (sym some) ∙ (take_more (digit ∷ digits) (len - 1) 0 (omega arith) ∙ ap (λ (z : ℕ). take (len - 1) (digit ∷ digits) ++ z ∷ []) last)) in
+    shortest (omega arith) (tens (whole ++ take (len - 1) (digit ∷ digits)) number (ap (digits_value 10) (append_assoc whole (take (len - 1) (digit ∷ digits)) (48 ∷ []) ∙ ap (λ (z : List ℕ). whole ++ z) (sym split)) ∙ is)) in
     sym (ap without_zeros all) ∙ (zeros_end (digit ∷ digits) len (omega arith) (le_refl len) differs ∙ all)
 
 -- whole digits, and perhaps a point and others, are the number
