@@ -6,3 +6,4 @@ pub mod PredicateLoops
 pub mod AggregateRules
 pub mod QueryRules
 pub mod StatementRules
+pub mod TextRules

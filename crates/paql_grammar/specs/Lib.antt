@@ -8,3 +8,4 @@ pub mod AggregateReading
 pub mod Query
 pub mod QueryReading
 pub mod StatementReading
+pub mod Texts

@@ -3,8 +3,15 @@
 
 mod bytes;
 mod changes;
+mod fault;
 mod literals;
 mod numbers;
+mod parsing;
 mod predicates;
+mod query;
 mod source;
+mod statements;
 mod tables;
+
+pub use fault::ParseFault;
+pub use parsing::{one_tree, parse};
