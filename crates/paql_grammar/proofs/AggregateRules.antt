@@ -305,7 +305,7 @@ next_item_shrinks {L = L} x = shrinks (starts_next L) (next_item_rule x)
 
 -- [ "-" ] term { ( "+" | "-" ) term }
 pub sum_rule : {L : Langs Lexeme Term} {P : Parser Lexeme Term} {ext : Lexeme → Bool} {n : ℕ} → Starts (among term_kinds) L → Apart (among sign_kinds) ext → IsRule opens L P ext n → IsRule opens (λ m. grammar.sum (L m)) (read.sum P) (either ext (among sign_kinds)) n
-unfolding read.sum
+unfolding read.sum read.more_items
 sum_rule {L = L} {ext = ext} {n = n} starts apart x =
     rule_then {q = λ first m. many (grammar.next_item (L m)) >>= λ later. gives (first ∷ later)}
     (λ first. joins_then (joins_many apart (starts_next L) (within_left ext (among sign_kinds))) (λ later. joins_gives (either ext (among sign_kinds)) (first ∷ later) (either ext (among sign_kinds)) (within_same (either ext (among sign_kinds)))))

@@ -14,7 +14,7 @@ use Rattle.formal_grammar.specs.Exact.{Langs, none, Within, IsRule, Starts, Join
 use Rattle.formal_grammar.proofs.Sets.{within_same, within_none}
 use Rattle.formal_grammar.proofs.Sequence.{rule_then, rule_seq}
 use Rattle.formal_grammar.proofs.Single.{rule_gives}
-use Rattle.formal_grammar.proofs.Joins.{starts_one_of, joins_gives, joins_starts, joins_then, joins_skip, joins_or}
+use Rattle.formal_grammar.proofs.Joins.{starts_then, starts_one_of, joins_gives, joins_starts, joins_then, joins_skip, joins_or}
 use Rattle.formal_grammar.proofs.Choice.{rule_when, rule_optional}
 use Rattle.formal_grammar.proofs.Repeats.{rule_listed}
 use Rattle.formal_grammar.proofs.Loops.{Shrinks, shrinks}
@@ -312,3 +312,7 @@ summand_shrinks false package_name n =
 
 pub condition_shrinks : (package_name : List ℕ) (n : ℕ) → Shrinks (read.next_condition (read_aggregates.condition package_name (predicates.pred n)))
 condition_shrinks package_name n = next_condition_shrinks (condition_rule package_name (pred_rule n))
+
+-- A query begins with SELECT.
+pub starts_query : (L : Langs Lexeme Pred) → Starts (is kinds.Select) (λ m. grammar.query (L m))
+starts_query L = starts_then {p = λ m. grammar.head} (starts_behind kinds.Select)

@@ -144,11 +144,16 @@ next_item term = do
   of ← term
   pure (record { minus = negative; term = of })
 
+-- What stands behind a first item, which is put in front.
+unfoldable pub more_items : SumItem → Parser Lexeme Term → Parser Lexeme (List SumItem)
+more_items first term = do
+  later ← repeat (among sign_kinds) (next_item term)
+  pure (first ∷ later)
+
 unfoldable pub sum : Parser Lexeme Term → Parser Lexeme (List SumItem)
 sum term = do
   first ← first_item term
-  later ← repeat (among sign_kinds) (next_item term)
-  pure (first ∷ later)
+  more_items first term
 
 -- ---- conditions and goals
 

@@ -1,6 +1,7 @@
 //! The parser of PaQL: from the bytes of a statement to its tree.
 #![tactic(auto)]
 
+mod aggregates;
 mod bytes;
 mod changes;
 mod fault;
