@@ -14,3 +14,4 @@ pub mod CanonicalQuery
 pub mod NumeralLemmas
 pub mod PrintedNumbers
 pub mod CanonicalStatements
+pub mod TextRules

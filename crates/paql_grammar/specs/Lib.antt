@@ -12,3 +12,4 @@ pub mod Spellings
 pub mod Print
 pub mod Spacing
 pub mod Canonical
+pub mod Texts
