@@ -15,3 +15,4 @@ pub mod NumeralLemmas
 pub mod PrintedNumbers
 pub mod CanonicalStatements
 pub mod TextRules
+pub mod PrintedPredicates
