@@ -5,3 +5,4 @@
 #![tactic(auto)]
 
 mod laws;
+pub mod printing;
