@@ -1,6 +1,6 @@
 -- The canonical lexemes of aggregates, sums, conditions and goals are texts of them, where those of numbers and of
 -- predicates are.
-use Rattle.std.proofs.Common.{◌≡◌, ◌⊎◌, inl, inr, ℕ, Bool, true, false, if◌then◌else◌, List, [], ◌∷◌, ◌++◌, flat_map, Option, Some, None, is_some, refl, sym, ap, subst, ◌∙◌, append-nil, append_assoc}
+use Rattle.std.proofs.Common.{◌≡◌, inl, inr, ℕ, Bool, true, false, if◌then◌else◌, List, [], ◌∷◌, ◌++◌, flat_map, Option, Some, None, is_some, refl, sym, ap, subst, ◌∙◌, append-nil}
 use Rattle.std.specs.Str.{bytes_eq}
 use Rattle.std.proofs.lemmas.Slice.Eq.{bytes_eq-Decides}
 use Rattle.pq_base.specs.declared.scaled.Scaled.{Scaled}
@@ -14,9 +14,9 @@ use Rattle.paql_ast.specs.declared.aggregates.Term.{Term}
 use Rattle.paql_ast.specs.declared.aggregates.Term.TheVariants as terms
 use Rattle.paql_ast.specs.declared.aggregates.SumItem.{SumItem}
 use Rattle.formal_grammar.proofs.Contexts.{some_is, not_none}
-use Rattle.formal_grammar.specs.Lang.{Lang, Then, ◌>>=◌, ◌>>◌, ◌or◌, gives, optional, many}
-use Rattle.paql_grammar.specs.Lexemes.{Lexeme, word, name, number}
-use Rattle.paql_grammar.specs.Predicates.{column, column_of}
+use Rattle.formal_grammar.specs.Lang.{Lang, ◌or◌}
+use Rattle.paql_grammar.specs.Lexemes.{Lexeme, word, number}
+use Rattle.paql_grammar.specs.Predicates.{column}
 use Rattle.paql_grammar.specs.Aggregates as grammar
 use Rattle.paql_grammar.specs.Spellings.{spelled}
 use Rattle.paql_grammar.specs.Spellings as lexeme

@@ -1,5 +1,5 @@
 -- The canonical lexemes of conditions and goals are texts of them, where those of sums and of numbers are.
-use Rattle.std.proofs.Common.{◌≡◌, ◌⊎◌, inl, inr, ℕ, Bool, true, false, if◌then◌else◌, List, [], ◌∷◌, ◌++◌, Option, Some, None, refl, sym, ap, subst, ◌∙◌, append-nil, append_assoc}
+use Rattle.std.proofs.Common.{◌≡◌, inl, inr, ℕ, Bool, true, false, if◌then◌else◌, List, [], ◌∷◌, ◌++◌, Some, refl, sym, subst, append_assoc}
 use Rattle.pq_base.specs.declared.scaled.Scaled.{Scaled}
 use Rattle.paql_lexer.specs.declared.vocabulary.Kind.{Kind}
 use Rattle.paql_lexer.specs.declared.vocabulary.Kind.TheVariants as kinds
@@ -10,8 +10,8 @@ use Rattle.paql_ast.specs.declared.aggregates.SumItem.{SumItem}
 use Rattle.paql_ast.specs.declared.queries.Conjunct.{Conjunct}
 use Rattle.paql_ast.specs.declared.queries.Conjunct.TheVariants.{Compare, Between, Avg, AvgBetween}
 use Rattle.paql_ast.specs.declared.queries.Goal.{Goal}
-use Rattle.formal_grammar.specs.Lang.{Lang, Then, ◌>>=◌, ◌>>◌, ◌or◌, gives}
-use Rattle.paql_grammar.specs.Lexemes.{Lexeme, word}
+use Rattle.formal_grammar.specs.Lang.{Lang, ◌or◌}
+use Rattle.paql_grammar.specs.Lexemes.{Lexeme}
 use Rattle.paql_grammar.specs.Predicates.{comparison, comparison_in, comparison_of, signed}
 use Rattle.paql_grammar.specs.Aggregates as grammar
 use Rattle.paql_grammar.specs.Spellings.{spelled}

@@ -1,14 +1,14 @@
 -- The canonical lexemes of words, names and texts spell what they are made of.
-use Rattle.std.proofs.Common.{◌≡◌, ℕ, suc, ◌+◌, ◌-◌, Bool, true, false, ◌==◌, if◌then◌else◌, List, [], ◌∷◌, ◌++◌, length, take, drop, flat_map, inl, inr, Option, Some, None, refl, sym, ap, subst, ◌∙◌, arith, append-nil, length-append}
+use Rattle.std.proofs.Common.{◌≡◌, ℕ, suc, ◌-◌, Bool, true, false, ◌==◌, if◌then◌else◌, List, [], ◌∷◌, ◌++◌, length, flat_map, inl, inr, Option, Some, refl, sym, ap, subst, ◌∙◌, arith, append-nil, length-append}
 use Rattle.std.proofs.Math.Seq.{take-append_seam}
 use denote.Enum.Bare.{sameb, true_same}
 use Rattle.paql_lexer.specs.Keywords.{word_kind}
-use Rattle.paql_lexer.specs.Lexical.{doubled, is_quote}
+use Rattle.paql_lexer.specs.Lexical.{doubled}
 use Rattle.paql_lexer.specs.contracts.vocabulary.Kind.{the_type}
 use Rattle.paql_lexer.specs.declared.vocabulary.Kind.{Kind}
 use Rattle.paql_lexer.specs.declared.vocabulary.Kind.TheVariants as kinds
-use Rattle.formal_grammar.specs.Lang.{Lang, Then, ◌>>=◌, ◌>>◌, gives, optional, many, listed}
-use Rattle.paql_grammar.specs.Lexemes.{Lexeme, is, inside, undoubled, name_of, content_of, word, name, content}
+use Rattle.formal_grammar.specs.Lang.{Lang, Then, ◌>>◌, gives, optional, many, listed}
+use Rattle.paql_grammar.specs.Lexemes.{Lexeme, inside, undoubled, name_of, word, name, content}
 use Rattle.paql_grammar.specs.Spellings as print
 use Rattle.paql_grammar.specs.Spellings.{spelled}
 use Rattle.paql_grammar.specs.Print.{optional as print_optional, listed as print_listed}

@@ -1,6 +1,5 @@
 -- The canonical lexemes of a query are a text of it, where those of its numbers and predicates are.
-use Rattle.std.proofs.Common.{◌≡◌, ◌⊎◌, inl, inr, ℕ, Bool, true, false, List, [], ◌∷◌, ◌++◌, flat_map, Option, Some, None, refl, sym, ap, subst, ◌∙◌, append-nil, append_assoc}
-use Rattle.pq_base.specs.declared.scaled.Scaled.{Scaled}
+use Rattle.std.proofs.Common.{inl, inr, ℕ, false, List, [], ◌∷◌, ◌++◌, Some, None, refl, sym, subst, append_assoc}
 use Rattle.paql_lexer.specs.declared.vocabulary.Kind.TheVariants as kinds
 use Rattle.paql_ast.specs.declared.predicates.Pred.{Pred}
 use Rattle.paql_ast.specs.declared.queries.Conjunct.{Conjunct}
@@ -8,8 +7,8 @@ use Rattle.paql_ast.specs.declared.queries.Goal.{Goal}
 use Rattle.paql_ast.specs.declared.queries.Method.{Method}
 use Rattle.paql_ast.specs.declared.queries.Method.TheVariants.{Direct, SketchRefine}
 use Rattle.paql_ast.specs.declared.queries.Query.{Query}
-use Rattle.formal_grammar.specs.Lang.{Lang, Then, ◌>>=◌, ◌>>◌, ◌or◌, gives, optional, listed}
-use Rattle.paql_grammar.specs.Lexemes.{Lexeme, word, name, number, whole}
+use Rattle.formal_grammar.specs.Lang.{Lang, ◌or◌, gives, listed}
+use Rattle.paql_grammar.specs.Lexemes.{Lexeme, word, number, whole}
 use Rattle.paql_grammar.specs.Predicates.{signed}
 use Rattle.paql_grammar.specs.Aggregates as aggregates
 use Rattle.paql_grammar.specs.Query as grammar

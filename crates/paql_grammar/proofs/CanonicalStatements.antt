@@ -1,19 +1,15 @@
 -- The canonical lexemes of a statement are a text of it, where those of its predicates are.
-use Rattle.std.proofs.Common.{◌≡◌, ◌⊎◌, inl, inr, ℕ, false, List, [], ◌∷◌, ◌++◌, Option, refl, sym, ap, subst, ◌∙◌, append-nil, append_assoc}
-use Rattle.pq_base.specs.declared.scaled.Scaled.{Scaled}
+use Rattle.std.proofs.Common.{inl, inr, ℕ, List, [], ◌∷◌, refl, sym, subst}
 use Rattle.schema_types.specs.declared.Column.{Column}
 use Rattle.schema_types.specs.declared.Kind.{Kind as ColumnKind}
 use Rattle.schema_types.specs.declared.Kind.TheVariants as column_kinds
 use Rattle.schema_types.specs.declared.Lit.{Lit}
 use Rattle.schema_types.specs.declared.Lit.TheVariants as lits
 use Rattle.paql_lexer.specs.declared.vocabulary.Kind.TheVariants as kinds
-use Rattle.paql_ast.specs.declared.predicates.Pred.{Pred}
 use Rattle.paql_ast.specs.declared.statements.Statement.{Statement}
 use Rattle.paql_ast.specs.declared.statements.Statement.TheVariants as statements
-use Rattle.formal_grammar.specs.Lang.{Lang, Then, ◌>>=◌, ◌>>◌, ◌or◌, gives, optional, listed}
-use Rattle.paql_grammar.specs.Lexemes.{Lexeme, word, name, number, whole}
+use Rattle.paql_grammar.specs.Lexemes.{name}
 use Rattle.paql_grammar.specs.Predicates.{lit, pred}
-use Rattle.paql_grammar.specs.Query.{query}
 use Rattle.paql_grammar.specs.Statements as grammar
 use Rattle.paql_grammar.specs.Spellings.{spelled}
 use Rattle.paql_grammar.specs.Spellings as lexeme

@@ -1,25 +1,17 @@
 -- Canonical texts of small trees, as the definitions compute them.
-use Rattle.std.proofs.Common.{◌≡◌, ◌++◌, ℕ, Bool, true, false, List, [], ◌∷◌, Option, Some, None, codes, ℤ, pos, negsuc, refl}
-use Rattle.std.proofs.Math.Decide.{dec_lt, dec_le, ℕ_discrete}
-use Rattle.pq_base.specs.declared.scaled.Scaled.{Scaled}
+use Rattle.std.proofs.Common.{◌≡◌, ◌++◌, ℕ, true, false, List, [], ◌∷◌, Some, None, codes, refl}
 use Rattle.schema_types.specs.declared.Lit.TheVariants as lits
 use Rattle.schema_types.specs.declared.Kind.TheVariants as column_kinds
 use Rattle.paql_lexer.specs.Keywords.{word_kind}
 use Rattle.paql_ast.specs.declared.predicates.ColumnName.{ColumnName}
 use Rattle.paql_ast.specs.declared.predicates.CmpOp.TheVariants as ops
 use Rattle.paql_ast.specs.declared.predicates.Operand.TheVariants as operands
-use Rattle.paql_ast.specs.declared.predicates.Pred.{Pred}
-use Rattle.paql_ast.specs.declared.predicates.Pred.TheVariants as preds
 use Rattle.paql_ast.specs.declared.aggregates.Plain.TheVariants as plains
 use Rattle.paql_ast.specs.declared.aggregates.Agg.{Agg}
-use Rattle.paql_ast.specs.declared.aggregates.Term.{Term}
 use Rattle.paql_ast.specs.declared.aggregates.Term.TheVariants as terms
 use Rattle.paql_ast.specs.declared.aggregates.SumItem.{SumItem}
-use Rattle.paql_ast.specs.declared.queries.Conjunct.TheVariants as conjuncts
 use Rattle.paql_ast.specs.declared.queries.Method.TheVariants as methods
 use Rattle.paql_ast.specs.declared.queries.Query.{Query}
-use Rattle.paql_ast.specs.declared.statements.Statement.TheVariants as statements
-use Rattle.paql_grammar.specs.Numerals.{scaled}
 use Rattle.paql_grammar.specs.Spacing.{spaced}
 use Rattle.paql_grammar.specs.Print as print
 use Rattle.paql_grammar.specs.Print.{Held, held}

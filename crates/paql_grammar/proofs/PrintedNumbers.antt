@@ -1,13 +1,13 @@
 -- The canonical lexemes of numbers show the numbers.
-use Rattle.std.proofs.Common.{◌≡◌, ◌≢◌, ℕ, zero, suc, ◌+◌, ◌-◌, ◌*◌, ◌^◌, ◌%◌, ◌<◌, ◌≤◌, min, Bool, true, false, ◌==◌, ◌&&◌, if◌then◌else◌, List, [], ◌∷◌, ◌++◌, length, take, drop, replicate, get_or, Option, Some, None, inl, inr, refl, sym, ap, subst, ◌∙◌, arith, lit<, ℤ, pos, negsuc, unsigned_abs, decimal, append-nil, append_assoc, le_refl}
+use Rattle.std.proofs.Common.{◌≡◌, ◌≢◌, ℕ, zero, suc, ◌+◌, ◌-◌, ◌*◌, ◌^◌, ◌%◌, ◌<◌, ◌≤◌, Bool, true, false, ◌==◌, ◌&&◌, if◌then◌else◌, List, [], ◌∷◌, ◌++◌, length, take, drop, replicate, get_or, Option, Some, None, inl, inr, refl, sym, ap, subst, ◌∙◌, arith, lit<, ℤ, pos, unsigned_abs, decimal, append_assoc, le_refl}
 use Rattle.std.proofs.lemmas.List.{take_all, length-append, length-drop, length-replicate, take-append-drop, take_more}
 use Rattle.std.proofs.lemmas.Bool.Decides.{Decides-eqb}
 use Rattle.std.specs.Char.{digit_value}
 use Rattle.std.specs.Str.{all_ascii_digits}
 use Rattle.std.specs.Str.Parse.{AllDigits, digits_value, digits_value_after}
 use Rattle.std.proofs.lemmas.Fmt.{decimal_is_IsNumeral_wide, length-decimal-le_wide}
-use Rattle.std.proofs.lemmas.Str.Parse.{numerals_by_value, tells_digits, tells_all_ascii_digits}
-use Rattle.pq_base.specs.Decimal.{BeginsWithDigit, signed, is_negative, padded, point_and, printed_parts, unsigned_text}
+use Rattle.std.proofs.lemmas.Str.Parse.{numerals_by_value, tells_all_ascii_digits}
+use Rattle.pq_base.specs.Decimal.{signed, is_negative, padded, point_and}
 use Rattle.pq_base.specs.declared.scaled.Scaled.{Scaled}
 use Rattle.pq_base.proofs.Numerals.{digits_value_after-append, digits_value_after-zeros, digits_value_after-push, AllDigits-take, no_digit_at_point}
 use Rattle.pq_base.proofs.Printed.{signed_is}
@@ -19,8 +19,8 @@ use Rattle.formal_grammar.proofs.Contexts.{some_is, not_none, both_ways}
 use Rattle.paql_grammar.specs.Predicates.{signed as signed_number}
 use Rattle.paql_grammar.specs.Canonical.{Canonical}
 use Rattle.paql_grammar.proofs.CanonicalLeaves.{spells_word, ends_in}
-use Rattle.paql_grammar.specs.Numerals.{stored, scaled, before_point, behind_point, without_zeros, number_of_digits, number_in, whole_in}
-use Rattle.paql_grammar.specs.Lexemes.{Lexeme, is, number, whole, number_of, whole_of}
+use Rattle.paql_grammar.specs.Numerals.{stored, scaled, before_point, behind_point, without_zeros, number_in, whole_in}
+use Rattle.paql_grammar.specs.Lexemes.{Lexeme, is, number, whole, number_of}
 use Rattle.paql_grammar.specs.Spellings as print
 use Rattle.paql_grammar.proofs.NumeralLemmas.{are_digits, scaled_is, zeros_end, whole_is, whole_small, number_parts}
 

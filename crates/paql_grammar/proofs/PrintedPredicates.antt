@@ -1,5 +1,5 @@
 -- The canonical lexemes of predicates are texts of them.
-use Rattle.std.proofs.Common.{◌≡◌, ◌⊎◌, inl, inr, ℕ, zero, suc, ◌≤◌, length, length-append, Bool, true, false, if◌then◌else◌, List, [], ◌∷◌, ◌++◌, map, flat_map, Option, Some, None, refl, sym, ap, subst, ◌∙◌, append-nil, append_assoc, arith}
+use Rattle.std.proofs.Common.{◌≡◌, ◌⊎◌, inl, inr, ℕ, zero, suc, ◌≤◌, length, length-append, List, [], ◌∷◌, ◌++◌, map, flat_map, Some, refl, sym, ap, subst, ◌∙◌, append-nil, arith}
 use Rattle.paql_lexer.specs.declared.vocabulary.Kind.TheVariants as kinds
 use Rattle.paql_lexer.specs.declared.vocabulary.Kind.{Kind}
 use Rattle.schema_types.specs.declared.Lit.{Lit}
@@ -10,7 +10,7 @@ use Rattle.paql_ast.specs.declared.predicates.Pred.{Pred, out-Pred, out-roll-Pre
 use Rattle.paql_ast.specs.declared.predicates.Pred.TheVariants as preds
 use Rattle.paql_ast.specs.declared.predicates.Pred.TheOpen.{Pred-F}
 use Rattle.paql_ast.specs.declared.predicates.Pred.TheFolds.{fold-Pred, fold-roll-Pred}
-use Rattle.formal_grammar.specs.Lang.{Lang, Then, ◌>>=◌, ◌>>◌, ◌or◌, gives, many, listed}
+use Rattle.formal_grammar.specs.Lang.{Lang, ◌>>◌, many, listed}
 use Rattle.paql_grammar.specs.Lexemes.{Lexeme, word}
 use Rattle.paql_grammar.specs.Predicates as grammar
 use Rattle.paql_grammar.specs.Predicates.{and_parts, and_of, or_parts, or_of}

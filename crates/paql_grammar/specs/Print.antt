@@ -1,5 +1,5 @@
 -- The canonical lexemes of each tree.
-use Rattle.std.specs.Prelude.{ℕ, ◌<◌, Bool, true, false, if◌then◌else◌, List, [], ◌∷◌, ◌++◌, map, flat_map, Option, Some, None}
+use Rattle.std.specs.Prelude.{ℕ, Bool, true, false, if◌then◌else◌, List, [], ◌∷◌, ◌++◌, flat_map, Option, Some, None}
 use Rattle.std.specs.Bool.{nat_lt}
 use Rattle.pq_base.specs.declared.scaled.Scaled.{Scaled}
 use Rattle.schema_types.specs.declared.Column.{Column}
