@@ -1,7 +1,7 @@
 -- What stands first in a sequence: a word, or an optional part.
-use Rattle.std.proofs.Common.{◌≡◌, ℕ, Bool, true, false, ◌⊎◌, inl, inr, List, [], ◌∷◌, ◌++◌, Option, Some, None, refl, sym, ap, subst, ◌∙◌}
+use Rattle.std.proofs.Common.{◌≡◌, ℕ, Bool, false, inl, inr, List, ◌++◌, Option, sym, ap, subst, ◌∙◌}
 use Rattle.paql_lexer.specs.declared.vocabulary.Kind.{Kind}
-use Rattle.formal_grammar.specs.Lang.{Lang, ◌>>=◌, ◌>>◌, optional}
+use Rattle.formal_grammar.specs.Lang.{◌>>=◌, ◌>>◌, optional}
 use Rattle.formal_grammar.specs.Exact.{Langs, Within, StartsIn, Starts, Joins}
 use Rattle.formal_grammar.proofs.Joins.{starts_first, starts_then, starts_one_of, starts_wider, joins_starts}
 use Rattle.paql_grammar.specs.Lexemes.{Lexeme, is, word}

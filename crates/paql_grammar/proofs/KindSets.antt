@@ -1,10 +1,9 @@
 -- Sets of tokens by their kinds: which lie inside which, which are apart, and what begins with them.
-use Rattle.std.proofs.Common.{◌≡◌, Bool, true, false, ◌||◌, ◌&&◌, not, List, [], ◌∷◌, refl, sym, ap, ◌∙◌}
+use Rattle.std.proofs.Common.{◌≡◌, Bool, true, false, ◌||◌, ◌&&◌, not, List, [], ◌∷◌, refl, ap, ◌∙◌}
 use denote.Enum.Bare.{sameb, same_true, true_same}
 use Rattle.paql_lexer.specs.contracts.vocabulary.Kind.{the_type}
 use Rattle.paql_lexer.specs.declared.vocabulary.Kind.{Kind}
-use Rattle.formal_grammar.specs.Lang.{Lang}
-use Rattle.formal_grammar.specs.Exact.{Langs, Within, Apart, Starts, Joins}
+use Rattle.formal_grammar.specs.Exact.{Within, Apart, Starts, Joins}
 use Rattle.formal_grammar.proofs.Contexts.{both_ways}
 use Rattle.formal_grammar.proofs.Joins.{starts_one_of, starts_wider, joins_starts}
 use Rattle.paql_grammar.specs.Lexemes.{Lexeme, is, among, word}

@@ -1,9 +1,9 @@
 -- The readings of AND and OR, where one part stands there and where there are more.
-use Rattle.std.proofs.Common.{◌≡◌, ℕ, zero, suc, Bool, true, false, List, [], ◌∷◌, length, flat_map, Ok, Err, refl, sym, ap, subst, ◌∙◌}
+use Rattle.std.proofs.Common.{◌≡◌, ℕ, Bool, true, false, List, [], ◌∷◌, length, flat_map, Ok, Err, refl, sym, ap, subst, ◌∙◌}
 use Rattle.paql_lexer.specs.declared.vocabulary.Kind.TheVariants as kinds
 use Rattle.paql_ast.specs.declared.predicates.Pred.{Pred}
 use Rattle.paql_ast.specs.declared.predicates.Pred.TheVariants as preds
-use Rattle.formal_grammar.specs.Parse.{Outcome, Parser, and_then, pure, accept, this, sees, turns, repeat, separated}
+use Rattle.formal_grammar.specs.Parse.{Outcome, Parser, and_then, pure, sees, turns, repeat, separated}
 use Rattle.formal_grammar.proofs.Contexts.{both_ways}
 use Rattle.formal_grammar.specs.Exact.{Langs, Exact, IsRule}
 use Rattle.paql_grammar.specs.Lexemes.{Lexeme, is}

@@ -1,9 +1,7 @@
 -- The laws of literals, columns and predicates: each reading is exact for its line.
-use Rattle.std.proofs.Common.{◌≡◌, ℕ, zero, suc, ◌≤◌, Bool, true, false, ◌||◌, List, [], ◌∷◌, Option, Some, None, is_some, refl, sym, ap, ◌∙◌, arith, inl, inr}
-use Rattle.pq_base.specs.declared.scaled.Scaled.{Scaled}
+use Rattle.std.proofs.Common.{◌≡◌, ℕ, zero, suc, ◌≤◌, Bool, true, false, ◌||◌, List, [], ◌∷◌, Some, is_some, refl, sym, arith, inl, inr}
 use Rattle.paql_lexer.specs.declared.vocabulary.Kind.{Kind}
 use Rattle.paql_lexer.specs.declared.vocabulary.Kind.TheVariants as kinds
-use Rattle.schema_types.specs.declared.Lit.{Lit}
 use Rattle.schema_types.specs.declared.Lit.TheVariants as lits
 use Rattle.paql_ast.specs.declared.predicates.ColumnName.{ColumnName}
 use Rattle.paql_ast.specs.declared.predicates.CmpOp.{CmpOp}
@@ -13,23 +11,23 @@ use Rattle.paql_ast.specs.declared.predicates.Pred.{Pred}
 use Rattle.paql_ast.specs.declared.predicates.Pred.TheVariants as preds
 use Rattle.formal_grammar.specs.Lang.{Lang, ◌>>=◌, ◌>>◌, ◌or◌, gives, optional, listed}
 use Rattle.formal_grammar.specs.Parse.{Parser, and_then, pure, accept, this, maybe}
-use Rattle.formal_grammar.specs.Exact.{Langs, none, either, Within, Grows, Begins, IsRule, Starts, Joins, nested}
+use Rattle.formal_grammar.specs.Exact.{Langs, none, Grows, Begins, IsRule, Starts, Joins, nested}
 use Rattle.formal_grammar.proofs.Contexts.{not_none, both_ways}
-use Rattle.formal_grammar.proofs.Sets.{within_same, within_none, within_left, within_right}
+use Rattle.formal_grammar.proofs.Sets.{within_same, within_none}
 use Rattle.formal_grammar.proofs.Sequence.{rule_then, rule_seq}
 use Rattle.formal_grammar.proofs.Single.{rule_gives, rule_shown}
-use Rattle.formal_grammar.proofs.Joins.{starts_then, starts_or, starts_shown, starts_nested, starts_wider, starts_one_of, joins_none, joins_gives, joins_starts, joins_then, joins_skip}
+use Rattle.formal_grammar.proofs.Joins.{starts_then, starts_or, starts_shown, starts_nested, starts_wider, starts_one_of, joins_gives, joins_starts}
 use Rattle.formal_grammar.proofs.Choice.{rule_when, rule_optional}
 use Rattle.formal_grammar.proofs.Repeats.{rule_listed}
 use Rattle.formal_grammar.proofs.Nesting.{grows_nested, rule_nested, rule_floor}
 use Rattle.formal_grammar.proofs.Widening.{rule_same, rule_wider}
 use Rattle.formal_grammar.proofs.Growth.{Among, among_then, among_or, among_listed, begins_behind}
 use Rattle.formal_grammar.proofs.Loops.{Shrinks, shrinks}
-use Rattle.paql_grammar.specs.Lexemes.{Lexeme, is, among, opens, word, name, content, number, name_of, number_of}
+use Rattle.paql_grammar.specs.Lexemes.{Lexeme, is, among, opens, word, number}
 use Rattle.paql_grammar.specs.Predicates.{signed, numeral, quoted, lit, suffix, column, column_of, comparison, comparison_in, comparison_of, operator, operator_in, operator_of, literal_operand, column_operand, operand, compared, ranged, listed_in, test, leaf, and_of, or_of, negation, both, joined, bracketed, single, pred}
 use Rattle.paql_grammar.specs.PredicateReading as read
 use Rattle.paql_grammar.specs.PredicateReading.{name_kinds, operator_kinds}
-use Rattle.paql_grammar.proofs.KindSets.{sample, passes, of_is, of_among, apart_word, apart_kinds, within_word, within_kinds, starts_word, joins_word}
+use Rattle.paql_grammar.proofs.KindSets.{sample, of_is, of_among, apart_word, apart_kinds, within_word, within_kinds}
 use Rattle.paql_grammar.proofs.Firsts.{starts_behind, joins_behind, starts_skip}
 use Rattle.paql_grammar.proofs.PredicateLoops.{both_is, joined_is, rule_as}
 use Rattle.paql_grammar.proofs.LexemeRules.{word_rule, name_rule, content_rule, number_rule, starts_name, starts_content, starts_number}

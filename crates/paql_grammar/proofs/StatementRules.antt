@@ -1,16 +1,13 @@
 -- The laws of the statements: each reading is exact for its line.
-use Rattle.std.proofs.Common.{◌≡◌, ℕ, Bool, true, false, ◌||◌, List, [], ◌∷◌, Option, refl, ap, ◌∙◌}
+use Rattle.std.proofs.Common.{◌≡◌, ℕ, Bool, true, false, ◌||◌, List, [], ◌∷◌, refl}
 use Rattle.paql_lexer.specs.declared.vocabulary.Kind.{Kind}
 use Rattle.paql_lexer.specs.declared.vocabulary.Kind.TheVariants as kinds
-use Rattle.schema_types.specs.declared.Lit.{Lit}
 use Rattle.schema_types.specs.declared.Kind.TheVariants as column_kinds
-use Rattle.schema_types.specs.declared.Column.{Column}
-use Rattle.paql_ast.specs.declared.predicates.Pred.{Pred}
 use Rattle.paql_ast.specs.declared.statements.Statement.{Statement}
 use Rattle.paql_ast.specs.declared.statements.Statement.TheVariants as statements
 use Rattle.formal_grammar.specs.Lang.{Lang, ◌>>=◌, ◌>>◌, ◌or◌, gives, optional, listed}
 use Rattle.formal_grammar.specs.Parse.{Parser, when, maybe, separated}
-use Rattle.formal_grammar.specs.Exact.{Langs, none, Within, IsRule, Starts, Joins}
+use Rattle.formal_grammar.specs.Exact.{Langs, none, IsRule, Starts, Joins}
 use Rattle.formal_grammar.proofs.Contexts.{both_ways}
 use Rattle.formal_grammar.proofs.Sets.{within_same, within_none}
 use Rattle.formal_grammar.proofs.Sequence.{rule_then, rule_seq}
@@ -18,11 +15,10 @@ use Rattle.formal_grammar.proofs.Single.{rule_gives}
 use Rattle.formal_grammar.proofs.Joins.{starts_then, starts_or, starts_wider, starts_one_of, joins_gives, joins_starts, joins_skip}
 use Rattle.formal_grammar.proofs.Choice.{rule_when, rule_optional}
 use Rattle.formal_grammar.proofs.Repeats.{rule_listed}
-use Rattle.formal_grammar.proofs.Widening.{rule_same}
 use Rattle.formal_grammar.proofs.Loops.{Shrinks, shrinks}
 use Rattle.formal_grammar.proofs.Whole.{one_value}
-use Rattle.paql_grammar.specs.Lexemes.{Lexeme, is, among, opens, word, name, number, whole, name_of}
-use Rattle.paql_grammar.specs.Predicates.{lit, pred}
+use Rattle.paql_grammar.specs.Lexemes.{Lexeme, is, among, opens, word, name, number, whole}
+use Rattle.paql_grammar.specs.Predicates.{pred}
 use Rattle.paql_grammar.specs.Statements as grammar
 use Rattle.paql_grammar.specs.StatementReading as read
 use Rattle.paql_grammar.proofs.KindSets.{of_is, of_among, apart_word, apart_kinds, within_word, disjoint}
@@ -220,6 +216,10 @@ record Begun (first : List Kind) (L : Langs Lexeme Statement) (P : Parser Lexeme
   starts : Starts (among first) L
   rule : IsRule opens L P any n
 
+-- a list with an element is not empty
+nil_cons : {A : Type 0} {a : A} {tail : List A} → ◌≡◌ {A = List A} [] (a ∷ tail) → ⊥
+nil_cons e = cc
+
 -- where neither test passes
 neither : (a b : Bool) → (a || b) ≡ false → (a ≡ false) × (b ≡ false)
 neither true b e = absurd (both_ways refl e)
@@ -254,13 +254,24 @@ begun_change n =
     (further kinds.Partition refl (starts_behind kinds.Partition) (partition_rule n)
     (further kinds.Vacuum refl (starts_behind kinds.Vacuum) (vacuum_rule n) (begun_session n))))
 
+-- The kinds of the first token of a statement.
+abbrev statement_kinds : List Kind
+statement_kinds = kinds.Create ∷ kinds.Insert ∷ kinds.Load ∷ kinds.Update ∷ kinds.Delete ∷ kinds.Partition ∷ kinds.Vacuum ∷ kinds.Begin ∷ kinds.Commit ∷ kinds.Rollback ∷ kinds.Certificate ∷ kinds.Select ∷ []
+
+begun_statement : (n : ℕ) → Begun statement_kinds (λ m. grammar.statement m) (read.statement n) n
+unfolding grammar.statement read.statement
+begun_statement n =
+    further kinds.Create refl (starts_behind kinds.Create) (create_rule n)
+    (further kinds.Insert refl (starts_behind kinds.Insert) (insert_rule n)
+    (further kinds.Load refl (starts_behind kinds.Load) (load_rule n) (begun_change n)))
+
 -- The parser of statements is exact, whatever the depth.
 pub exact_statement : (n : ℕ) → IsRule opens (λ m. grammar.statement m) (read.statement n) any n
-unfolding grammar.statement read.statement
-exact_statement n =
-    (further kinds.Create refl (starts_behind kinds.Create) (create_rule n)
-    (further kinds.Insert refl (starts_behind kinds.Insert) (insert_rule n)
-    (further kinds.Load refl (starts_behind kinds.Load) (load_rule n) (begun_change n)))).rule
+exact_statement n = (begun_statement n).rule
+
+-- No statement is without a token.
+pub never_empty : (n : ℕ) (t : Statement) → grammar.statement n [] t → ⊥
+never_empty n t spells = nil_cons ((begun_statement n).starts.first n [] t spells).cons
 
 -- Tokens spell one statement at most.
 pub one_statement : (m n : ℕ) (tokens : List Lexeme) (t u : Statement) → grammar.statement m tokens t → grammar.statement n tokens u → t ≡ u

@@ -1,18 +1,15 @@
 -- What the law of statements says of texts.
-use Rattle.std.proofs.Common.{◌≡◌, ℕ, ◌-◌, ◌<◌, ◌≤◌, List, length, Ok, Err, refl, sym, ap, subst, ◌∙◌}
+use Rattle.std.proofs.Common.{◌≡◌, ℕ, ◌-◌, List, length, Err, ap, subst}
 use Rattle.std.proofs.lemmas.List.{length-map}
 use Rattle.formal_grammar.specs.declared.stop.Why.TheVariants.{Syntax, Deep}
 use Rattle.formal_grammar.specs.Parse.{all_of}
-use Rattle.formal_grammar.specs.Fault.{IsOnly}
-use Rattle.formal_grammar.proofs.Whole.{found_by, complete_by, not_refused_by, syntax_by, deep_by}
+use Rattle.formal_grammar.proofs.Whole.{syntax_by, deep_by}
 use Rattle.paql_lexer.specs.declared.lexer.Token.{Token}
-use Rattle.paql_lexer.specs.Tokens.{IsTokens}
 use Rattle.paql_lexer.proofs.Reached.{one_list_of_tokens}
-use Rattle.paql_ast.specs.declared.statements.Statement.{Statement}
 use Rattle.paql_grammar.specs.Lexemes.{lexeme, lexemes}
 use Rattle.paql_grammar.specs.Statements as grammar
 use Rattle.paql_grammar.specs.StatementReading as read
-use Rattle.paql_grammar.specs.Texts.{Spells, OneTree, place_of, IsSyntaxAt, IsDeepAt}
+use Rattle.paql_grammar.specs.Texts.{OneTree, place_of, IsSyntaxAt, IsDeepAt}
 use Rattle.paql_grammar.proofs.StatementRules.{exact_statement, one_statement}
 
 -- there are as many lexemes as tokens

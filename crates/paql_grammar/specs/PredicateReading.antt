@@ -1,5 +1,5 @@
 -- The readings of literals, columns and predicates, line by line as the grammar stands.
-use Rattle.std.specs.Prelude.{ℕ, zero, suc, is_some, List, [], ◌∷◌, flat_map, Option}
+use Rattle.std.specs.Prelude.{ℕ, zero, suc, is_some, List, [], ◌∷◌, flat_map}
 use Rattle.pq_base.specs.declared.scaled.Scaled.{Scaled}
 use Rattle.paql_lexer.specs.declared.vocabulary.Kind.{Kind}
 use Rattle.paql_lexer.specs.declared.vocabulary.Kind.TheVariants as kinds

@@ -1,5 +1,5 @@
 -- Literals, columns and predicates.
-use Rattle.std.specs.Prelude.{ℕ, zero, suc, Bool, is_some, List, [], ◌∷◌, flat_map, Option, Some, None}
+use Rattle.std.specs.Prelude.{ℕ, zero, suc, is_some, List, [], ◌∷◌, flat_map, Option, Some, None}
 use Rattle.pq_base.specs.declared.scaled.Scaled.{Scaled}
 use Rattle.paql_lexer.specs.declared.vocabulary.Kind.{Kind}
 use Rattle.paql_lexer.specs.declared.vocabulary.Kind.TheVariants as kinds
@@ -14,7 +14,7 @@ use Rattle.paql_ast.specs.declared.predicates.Pred.{Pred, out-Pred}
 use Rattle.paql_ast.specs.declared.predicates.Pred.TheVariants as preds
 use Rattle.paql_ast.specs.declared.predicates.Pred.TheOpen.{Pred-F}
 use Rattle.formal_grammar.specs.Lang.{Lang, ◌>>=◌, ◌>>◌, ◌or◌, gives, shown, optional, listed}
-use Rattle.paql_grammar.specs.Lexemes.{Lexeme, is, among, word, name, content, number}
+use Rattle.paql_grammar.specs.Lexemes.{Lexeme, word, name, content, number}
 
 -- ---- literals and columns
 

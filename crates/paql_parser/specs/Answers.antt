@@ -1,10 +1,10 @@
 -- What the parser answers.
-use Rattle.std.specs.Prelude.{◌≡◌, ℕ, List, [], Option, Some, None, Result, Ok, Err}
+use Rattle.std.specs.Prelude.{ℕ, List, [], Option, Some, None, Result, Ok, Err}
 use Rattle.paql_lexer.specs.declared.lexer.Token.{Token}
 use Rattle.paql_lexer.specs.Tokens.{IsTokens, IsLexFault}
 use Rattle.paql_ast.specs.declared.statements.Statement.{Statement}
-use Rattle.formal_grammar.specs.Fault.{IsOnly, IsSyntaxFault, IsDeepFault}
-use Rattle.paql_grammar.specs.Lexemes.{lexemes, opens}
+use Rattle.formal_grammar.specs.Fault.{IsOnly}
+use Rattle.paql_grammar.specs.Lexemes.{lexemes}
 use Rattle.paql_grammar.specs.Statements.{statement}
 use Rattle.paql_grammar.specs.Texts.{IsStatement, HasSyntaxFault, HasDeepFault, IsSyntaxAt, IsDeepAt}
 use Rattle.paql_parser.specs.declared.fault.ParseFault.{ParseFault}

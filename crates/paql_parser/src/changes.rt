@@ -28,8 +28,10 @@ fn assignment(alloc: Global, source: Source<'_>) -> Result<((Text, Lit), Source<
     Ok(((column, value), rest))
 }
 
-fn next_assignment(alloc: Global, source: Source<'_>)
-    -> Result<((Text, Lit), Source<'_>), ReadError>
+fn next_assignment(
+    alloc: Global,
+    source: Source<'_>,
+) -> Result<((Text, Lit), Source<'_>), ReadError>
     ensures { Gives (λ x. (x.0, left x.1)) result (read.next_assignment (left source.entry)) }
 {
     let rest = take(source, Kind::Comma)?;
@@ -37,8 +39,10 @@ fn next_assignment(alloc: Global, source: Source<'_>)
 }
 
 #[tactic(auto, unfolding(paql_grammar::specs::StatementReading::assignments))]
-fn assignments(alloc: Global, source: Source<'_>)
-    -> Result<(Items<(Text, Lit)>, Source<'_>), ReadError>
+fn assignments(
+    alloc: Global,
+    source: Source<'_>,
+) -> Result<(Items<(Text, Lit)>, Source<'_>), ReadError>
     ensures { Gives (λ x. (x.0, left x.1)) result (read.assignments (left source.entry)) }
 {
     let (first, mut rest) = assignment(alloc, source)?;
@@ -61,8 +65,11 @@ fn filter(alloc: Global, depth: u32, source: Source<'_>) -> Result<(Pred, Source
 }
 
 /// WHERE and its predicate, where it stands there.
-fn filtered(alloc: Global, depth: u32, source: Source<'_>)
-    -> Result<(Option<Pred>, Source<'_>), ReadError>
+fn filtered(
+    alloc: Global,
+    depth: u32,
+    source: Source<'_>,
+) -> Result<(Option<Pred>, Source<'_>), ReadError>
     ensures { Gives (λ x. (x.0, left x.1)) result
         (parse.maybe (is kinds.Where) (read.filter depth) (left source.entry)) }
 {
@@ -75,8 +82,11 @@ fn filtered(alloc: Global, depth: u32, source: Source<'_>)
 
 /// `UPDATE`
 #[tactic(auto, unfolding(paql_grammar::specs::StatementReading::update))]
-pub(crate) fn update(alloc: Global, depth: u32, source: Source<'_>)
-    -> Result<(Statement, Source<'_>), ReadError>
+pub(crate) fn update(
+    alloc: Global,
+    depth: u32,
+    source: Source<'_>,
+) -> Result<(Statement, Source<'_>), ReadError>
     ensures { Gives (λ x. (x.0, left x.1)) result (read.update depth (left source.entry)) }
 {
     let rest = take(source, Kind::Update)?;
@@ -94,8 +104,11 @@ pub(crate) fn update(alloc: Global, depth: u32, source: Source<'_>)
 
 /// `DELETE FROM`
 #[tactic(auto, unfolding(paql_grammar::specs::StatementReading::delete))]
-pub(crate) fn delete(alloc: Global, depth: u32, source: Source<'_>)
-    -> Result<(Statement, Source<'_>), ReadError>
+pub(crate) fn delete(
+    alloc: Global,
+    depth: u32,
+    source: Source<'_>,
+) -> Result<(Statement, Source<'_>), ReadError>
     ensures { Gives (λ x. (x.0, left x.1)) result (read.delete depth (left source.entry)) }
 {
     let rest = take(source, Kind::Delete)?;

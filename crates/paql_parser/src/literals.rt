@@ -125,8 +125,10 @@ fn suffix(alloc: Global, source: Source<'_>) -> Result<(Text, Source<'_>), ReadE
 
 /// A column, with a name in front of it or not.
 #[tactic(auto, unfolding(paql_grammar::specs::PredicateReading::column))]
-pub(crate) fn column(alloc: Global, source: Source<'_>)
-    -> Result<(ColumnName, Source<'_>), ReadError>
+pub(crate) fn column(
+    alloc: Global,
+    source: Source<'_>,
+) -> Result<(ColumnName, Source<'_>), ReadError>
     ensures { Gives (λ x. (x.0, left x.1)) result (read.column (left source.entry)) }
 {
     let (first, rest) = name(alloc, source)?;
@@ -179,8 +181,11 @@ fn operand(alloc: Global, source: Source<'_>) -> Result<(Operand, Source<'_>), R
 }
 
 #[tactic(auto, unfolding(paql_grammar::specs::PredicateReading::compared))]
-fn compared(alloc: Global, of: ColumnName, source: Source<'_>)
-    -> Result<(Pred, Source<'_>), ReadError>
+fn compared(
+    alloc: Global,
+    of: ColumnName,
+    source: Source<'_>,
+) -> Result<(Pred, Source<'_>), ReadError>
     ensures { Gives (λ x. (x.0, left x.1)) result (read.compared of (left source.entry)) }
 {
     let (op, rest) = operator(source)?;
@@ -194,20 +199,25 @@ fn compared(alloc: Global, of: ColumnName, source: Source<'_>)
 }
 
 #[tactic(auto, unfolding(paql_grammar::specs::PredicateReading::ranged))]
-fn ranged(alloc: Global, of: ColumnName, source: Source<'_>)
-    -> Result<(Pred, Source<'_>), ReadError>
+fn ranged(
+    alloc: Global,
+    of: ColumnName,
+    source: Source<'_>,
+) -> Result<(Pred, Source<'_>), ReadError>
     ensures { Gives (λ x. (x.0, left x.1)) result (read.ranged of (left source.entry)) }
 {
     let rest = take(source, Kind::Between)?;
     let (low, rest) = lit(alloc, rest)?;
     let rest = take(rest, Kind::And)?;
     let (high, rest) = lit(alloc, rest)?;
-    let test = Pred::Between {
-        column: of,
-        low,
-        high,
-    };
-    Ok((test, rest))
+    Ok((
+        Pred::Between {
+            column: of,
+            low,
+            high,
+        },
+        rest,
+    ))
 }
 
 fn next_lit(alloc: Global, source: Source<'_>) -> Result<(Lit, Source<'_>), ReadError>
@@ -219,8 +229,7 @@ fn next_lit(alloc: Global, source: Source<'_>) -> Result<(Lit, Source<'_>), Read
 
 /// Literals with commas between them.
 #[tactic(auto, unfolding(paql_grammar::specs::PredicateReading::lits_in))]
-pub(crate) fn lits(alloc: Global, source: Source<'_>)
-    -> Result<(Items<Lit>, Source<'_>), ReadError>
+pub(crate) fn lits(alloc: Global, source: Source<'_>) -> Result<(Items<Lit>, Source<'_>), ReadError>
     ensures { Gives (λ x. (x.0, left x.1)) result (read.lits_in (left source.entry)) }
 {
     let (first, mut rest) = lit(alloc, source)?;
@@ -235,8 +244,11 @@ pub(crate) fn lits(alloc: Global, source: Source<'_>)
 }
 
 #[tactic(auto, unfolding(paql_grammar::specs::PredicateReading::listed_in))]
-fn listed_in(alloc: Global, of: ColumnName, source: Source<'_>)
-    -> Result<(Pred, Source<'_>), ReadError>
+fn listed_in(
+    alloc: Global,
+    of: ColumnName,
+    source: Source<'_>,
+) -> Result<(Pred, Source<'_>), ReadError>
     ensures { Gives (λ x. (x.0, left x.1)) result (read.listed_in of (left source.entry)) }
 {
     let rest = take(source, Kind::In)?;

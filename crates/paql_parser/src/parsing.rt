@@ -1,8 +1,6 @@
 //! From the bytes of a statement to its tree, or to the place of its fault.
 ghost use Rattle.std.specs.Prelude.{◌≡◌, ◌-◌, [], Some, None, length, MatchResult};
 ghost use Rattle.paql_lexer.specs.Tokens.{IsTokens};
-ghost use Rattle.paql_grammar.specs.Lexemes.{lexemes};
-ghost use Rattle.paql_grammar.specs.Statements as grammar;
 ghost use Rattle.paql_grammar.specs.Texts.{Spells, OneTree, place_of};
 ghost use Rattle.paql_parser.specs.Answers.{Answers, AnswersTokens};
 
@@ -27,18 +25,7 @@ pub fn parse(alloc: Global, text: &[u8]) -> Result<Option<Statement>, ParseFault
     ensures empty { IsTokens text.now []
         → MatchResult result (λ found. found ≡ None) (λ e. e ≡ ParseFault.Memory) }
 {
-    let tokens = match tokens(alloc, text) {
-        Ok(tokens) => tokens,
-        Err(LexFault::Lex(at)) => return Err(ParseFault::Lex(at)),
-        Err(LexFault::Memory) => return Err(ParseFault::Memory),
-    };
-    if tokens.is_empty() {
-        return Ok(None);
-    }
-    match parse_tokens(alloc, text, &tokens) {
-        Ok(statement) => Ok(Some(statement)),
-        Err(fault) => Err(fault),
-    }
+    answer(alloc, text)
 }
 
 /// A law: a text spells one statement at most, whatever the depth.
@@ -56,10 +43,9 @@ fn place(text: &[u8], tokens: &[Token], left: usize) -> usize
     }
 }
 
+/// The statement that the tokens of a text spell.
 fn parse_tokens(alloc: Global, text: &[u8], tokens: &[Token]) -> Result<Statement, ParseFault>
-    ensures answer { AnswersTokens text.now tokens.now result }
-    ensures complete { (t : _) → grammar.statement 64 (lexemes text.now tokens.now) t
-        → MatchResult result (λ found. found ≡ t) (λ e. e ≡ ParseFault.Memory) }
+    ensures { AnswersTokens text.now tokens.now result }
 {
     match whole(alloc, Source { text, tokens }) {
         Ok(statement) => Ok(statement),
@@ -72,3 +58,23 @@ fn parse_tokens(alloc: Global, text: &[u8], tokens: &[Token]) -> Result<Statemen
         }
     }
 }
+
+fn answer(alloc: Global, text: &[u8]) -> Result<Option<Statement>, ParseFault>
+    ensures { Answers text.now result }
+{
+    let tokens = match tokens(alloc, text) {
+        Ok(tokens) => tokens,
+        Err(LexFault::Lex(at)) => return Err(ParseFault::Lex(at)),
+        Err(LexFault::Memory) => return Err(ParseFault::Memory),
+    };
+    if tokens.is_empty() {
+        return Ok(None);
+    }
+    match parse_tokens(alloc, text, tokens.as_slice()) {
+        Ok(statement) => Ok(Some(statement)),
+        Err(fault) => Err(fault),
+    }
+}
+
+#[cfg(test)]
+mod tests;

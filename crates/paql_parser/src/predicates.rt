@@ -57,8 +57,11 @@ fn or_parts(alloc: Global, pred: Pred) -> Result<Items<Pred>, AllocError>
 /// A predicate with at most so many brackets and NOTs open at one place.
 #[cycle(predicates)]
 #[tactic(auto, unfolding(paql_grammar::specs::PredicateReading::joined))]
-pub(crate) fn joined(alloc: Global, depth: u32, source: Source<'_>)
-    -> Result<(Pred, Source<'_>), ReadError>
+pub(crate) fn joined(
+    alloc: Global,
+    depth: u32,
+    source: Source<'_>,
+) -> Result<(Pred, Source<'_>), ReadError>
     ensures { Gives (λ x. (x.0, left x.1)) result (read.pred depth (left source.entry)) }
 {
     let (first, rest) = both(alloc, depth, source)?;
@@ -68,8 +71,12 @@ pub(crate) fn joined(alloc: Global, depth: u32, source: Source<'_>)
 /// The first part, and the others where an OR stands behind it.
 #[cycle(predicates)]
 #[tactic(auto, unfolding(paql_grammar::specs::PredicateReading::or_rest))]
-fn or_rest(alloc: Global, depth: u32, first: Pred, source: Source<'_>)
-    -> Result<(Pred, Source<'_>), ReadError>
+fn or_rest(
+    alloc: Global,
+    depth: u32,
+    first: Pred,
+    source: Source<'_>,
+) -> Result<(Pred, Source<'_>), ReadError>
     ensures { Gives (λ x. (x.0, left x.1)) result
         (read.or_rest first (read.both (read.single depth)) (left source.entry)) }
 {
@@ -81,8 +88,12 @@ fn or_rest(alloc: Global, depth: u32, first: Pred, source: Source<'_>)
 }
 
 #[cycle(predicates)]
-fn more_or(alloc: Global, depth: u32, first: Pred, source: Source<'_>)
-    -> Result<(Items<Pred>, Source<'_>), ReadError>
+fn more_or(
+    alloc: Global,
+    depth: u32,
+    first: Pred,
+    source: Source<'_>,
+) -> Result<(Items<Pred>, Source<'_>), ReadError>
     ensures { Gives (λ x. (x.0, left x.1)) result
         (read.more_or first (read.both (read.single depth)) (left source.entry)) }
 {
@@ -118,8 +129,12 @@ fn both(alloc: Global, depth: u32, source: Source<'_>) -> Result<(Pred, Source<'
 /// The first part, and the others where an AND stands behind it.
 #[cycle(predicates)]
 #[tactic(auto, unfolding(paql_grammar::specs::PredicateReading::and_rest))]
-fn and_rest(alloc: Global, depth: u32, first: Pred, source: Source<'_>)
-    -> Result<(Pred, Source<'_>), ReadError>
+fn and_rest(
+    alloc: Global,
+    depth: u32,
+    first: Pred,
+    source: Source<'_>,
+) -> Result<(Pred, Source<'_>), ReadError>
     ensures { Gives (λ x. (x.0, left x.1)) result
         (read.and_rest first (read.single depth) (left source.entry)) }
 {
@@ -131,8 +146,12 @@ fn and_rest(alloc: Global, depth: u32, first: Pred, source: Source<'_>)
 }
 
 #[cycle(predicates)]
-fn more_and(alloc: Global, depth: u32, first: Pred, source: Source<'_>)
-    -> Result<(Items<Pred>, Source<'_>), ReadError>
+fn more_and(
+    alloc: Global,
+    depth: u32,
+    first: Pred,
+    source: Source<'_>,
+) -> Result<(Items<Pred>, Source<'_>), ReadError>
     ensures { Gives (λ x. (x.0, left x.1)) result
         (read.more_and first (read.single depth) (left source.entry)) }
 {
@@ -183,8 +202,7 @@ fn opened(alloc: Global, depth: u32, source: Source<'_>) -> Result<(Pred, Source
 
 #[cycle(predicates)]
 #[tactic(auto, unfolding(paql_grammar::specs::PredicateReading::negation))]
-fn negation(alloc: Global, depth: u32, source: Source<'_>)
-    -> Result<(Pred, Source<'_>), ReadError>
+fn negation(alloc: Global, depth: u32, source: Source<'_>) -> Result<(Pred, Source<'_>), ReadError>
     ensures { Gives (λ x. (x.0, left x.1)) result
         (read.negation (read.single depth) (left source.entry)) }
 {
@@ -195,8 +213,7 @@ fn negation(alloc: Global, depth: u32, source: Source<'_>)
 
 #[cycle(predicates)]
 #[tactic(auto, unfolding(paql_grammar::specs::PredicateReading::bracketed))]
-fn bracketed(alloc: Global, depth: u32, source: Source<'_>)
-    -> Result<(Pred, Source<'_>), ReadError>
+fn bracketed(alloc: Global, depth: u32, source: Source<'_>) -> Result<(Pred, Source<'_>), ReadError>
     ensures { Gives (λ x. (x.0, left x.1)) result
         (read.bracketed (read.pred depth) (left source.entry)) }
 {

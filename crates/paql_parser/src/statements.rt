@@ -47,8 +47,11 @@ fn certificate(source: Source<'_>) -> Result<(Statement, Source<'_>), ReadError>
 }
 
 #[tactic(auto, unfolding(paql_grammar::specs::StatementReading::package_query))]
-fn package_query(alloc: Global, depth: u32, source: Source<'_>)
-    -> Result<(Statement, Source<'_>), ReadError>
+fn package_query(
+    alloc: Global,
+    depth: u32,
+    source: Source<'_>,
+) -> Result<(Statement, Source<'_>), ReadError>
     ensures { Gives (λ x. (x.0, left x.1)) result (read.package_query depth (left source.entry)) }
 {
     let (query, rest) = query(alloc, depth, source)?;
@@ -57,8 +60,11 @@ fn package_query(alloc: Global, depth: u32, source: Source<'_>)
 
 /// A statement of one word, or a query.
 #[tactic(auto, unfolding(paql_grammar::specs::StatementReading::session))]
-fn session(alloc: Global, depth: u32, source: Source<'_>)
-    -> Result<(Statement, Source<'_>), ReadError>
+fn session(
+    alloc: Global,
+    depth: u32,
+    source: Source<'_>,
+) -> Result<(Statement, Source<'_>), ReadError>
     ensures { Gives (λ x. (x.0, left x.1)) result (read.session depth (left source.entry)) }
 {
     if sees(source, Kind::Begin) {
@@ -78,8 +84,11 @@ fn session(alloc: Global, depth: u32, source: Source<'_>)
 
 /// A change of what is stored, or a statement of `session`.
 #[tactic(auto, unfolding(paql_grammar::specs::StatementReading::change))]
-fn change(alloc: Global, depth: u32, source: Source<'_>)
-    -> Result<(Statement, Source<'_>), ReadError>
+fn change(
+    alloc: Global,
+    depth: u32,
+    source: Source<'_>,
+) -> Result<(Statement, Source<'_>), ReadError>
     ensures { Gives (λ x. (x.0, left x.1)) result (read.change depth (left source.entry)) }
 {
     if sees(source, Kind::Update) {
@@ -98,8 +107,11 @@ fn change(alloc: Global, depth: u32, source: Source<'_>)
 }
 
 #[tactic(auto, unfolding(paql_grammar::specs::StatementReading::statement))]
-fn statement(alloc: Global, depth: u32, source: Source<'_>)
-    -> Result<(Statement, Source<'_>), ReadError>
+fn statement(
+    alloc: Global,
+    depth: u32,
+    source: Source<'_>,
+) -> Result<(Statement, Source<'_>), ReadError>
     ensures { Gives (λ x. (x.0, left x.1)) result (read.statement depth (left source.entry)) }
 {
     if sees(source, Kind::Create) {

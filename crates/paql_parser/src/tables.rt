@@ -72,8 +72,10 @@ fn next_column(alloc: Global, source: Source<'_>) -> Result<(Column, Source<'_>)
 }
 
 #[tactic(auto, unfolding(paql_grammar::specs::StatementReading::defined_columns))]
-fn defined_columns(alloc: Global, source: Source<'_>)
-    -> Result<(Items<Column>, Source<'_>), ReadError>
+fn defined_columns(
+    alloc: Global,
+    source: Source<'_>,
+) -> Result<(Items<Column>, Source<'_>), ReadError>
     ensures { Gives (λ x. (x.0, left x.1)) result (read.defined_columns (left source.entry)) }
 {
     let (first, mut rest) = defined_column(alloc, source)?;
@@ -89,8 +91,10 @@ fn defined_columns(alloc: Global, source: Source<'_>)
 
 /// `CREATE TABLE`
 #[tactic(auto, unfolding(paql_grammar::specs::StatementReading::create))]
-pub(crate) fn create(alloc: Global, source: Source<'_>)
-    -> Result<(Statement, Source<'_>), ReadError>
+pub(crate) fn create(
+    alloc: Global,
+    source: Source<'_>,
+) -> Result<(Statement, Source<'_>), ReadError>
     ensures { Gives (λ x. (x.0, left x.1)) result (read.create (left source.entry)) }
 {
     let rest = take(source, Kind::Create)?;
@@ -122,8 +126,7 @@ fn next_tuple(alloc: Global, source: Source<'_>) -> Result<(Items<Lit>, Source<'
 }
 
 #[tactic(auto, unfolding(paql_grammar::specs::StatementReading::tuples))]
-fn tuples(alloc: Global, source: Source<'_>)
-    -> Result<(Items<Items<Lit>>, Source<'_>), ReadError>
+fn tuples(alloc: Global, source: Source<'_>) -> Result<(Items<Items<Lit>>, Source<'_>), ReadError>
     ensures { Gives (λ x. (x.0, left x.1)) result (read.tuples (left source.entry)) }
 {
     let (first, mut rest) = tuple(alloc, source)?;
@@ -139,8 +142,10 @@ fn tuples(alloc: Global, source: Source<'_>)
 
 /// `INSERT INTO`
 #[tactic(auto, unfolding(paql_grammar::specs::StatementReading::insert))]
-pub(crate) fn insert(alloc: Global, source: Source<'_>)
-    -> Result<(Statement, Source<'_>), ReadError>
+pub(crate) fn insert(
+    alloc: Global,
+    source: Source<'_>,
+) -> Result<(Statement, Source<'_>), ReadError>
     ensures { Gives (λ x. (x.0, left x.1)) result (read.insert (left source.entry)) }
 {
     let rest = take(source, Kind::Insert)?;
@@ -155,8 +160,7 @@ pub(crate) fn insert(alloc: Global, source: Source<'_>)
 
 /// `LOAD`
 #[tactic(auto, unfolding(paql_grammar::specs::StatementReading::load))]
-pub(crate) fn load(alloc: Global, source: Source<'_>)
-    -> Result<(Statement, Source<'_>), ReadError>
+pub(crate) fn load(alloc: Global, source: Source<'_>) -> Result<(Statement, Source<'_>), ReadError>
     ensures { Gives (λ x. (x.0, left x.1)) result (read.load (left source.entry)) }
 {
     let rest = take(source, Kind::Load)?;
@@ -192,8 +196,10 @@ fn names(alloc: Global, source: Source<'_>) -> Result<(Items<Text>, Source<'_>),
 
 /// `PARTITION`
 #[tactic(auto, unfolding(paql_grammar::specs::StatementReading::partition))]
-pub(crate) fn partition(alloc: Global, source: Source<'_>)
-    -> Result<(Statement, Source<'_>), ReadError>
+pub(crate) fn partition(
+    alloc: Global,
+    source: Source<'_>,
+) -> Result<(Statement, Source<'_>), ReadError>
     ensures { Gives (λ x. (x.0, left x.1)) result (read.partition (left source.entry)) }
 {
     let rest = take(source, Kind::Partition)?;

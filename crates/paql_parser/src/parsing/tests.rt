@@ -1,0 +1,161 @@
+use super::*;
+use paql_ast::predicates::Pred;
+use pq_base::Scaled;
+use schema_types::Lit;
+use std::test::*;
+
+/// Which statement was found.
+#[derive(Clone, Copy, Debug, PartialEq, Eq)]
+enum Line {
+    Create,
+    Insert,
+    Load,
+    Update,
+    Delete,
+    Partition,
+    Vacuum,
+    Begin,
+    Commit,
+    Rollback,
+    Certificate,
+    Query,
+}
+
+/// What the tests see of an answer.
+#[derive(Clone, Copy, Debug, PartialEq, Eq)]
+enum Answer {
+    Nothing,
+    Found(Line),
+    Lex(usize),
+    Syntax(usize),
+    Deep(usize),
+    Memory,
+}
+
+fn line_of(statement: &Statement) -> Line {
+    match statement {
+        Statement::Create { .. } => Line::Create,
+        Statement::Insert { .. } => Line::Insert,
+        Statement::Load { .. } => Line::Load,
+        Statement::Update { .. } => Line::Update,
+        Statement::Delete { .. } => Line::Delete,
+        Statement::Partition { .. } => Line::Partition,
+        Statement::Vacuum { .. } => Line::Vacuum,
+        Statement::Begin => Line::Begin,
+        Statement::Commit => Line::Commit,
+        Statement::Rollback => Line::Rollback,
+        Statement::Certificate => Line::Certificate,
+        Statement::Query(_) => Line::Query,
+    }
+}
+
+fn answer_of(alloc: Global, text: &[u8]) -> Answer {
+    match parse(alloc, text) {
+        Ok(None) => Answer::Nothing,
+        Ok(Some(statement)) => Answer::Found(line_of(&statement)),
+        Err(ParseFault::Lex(at)) => Answer::Lex(at),
+        Err(ParseFault::Syntax(at)) => Answer::Syntax(at),
+        Err(ParseFault::Deep(at)) => Answer::Deep(at),
+        Err(ParseFault::Memory) => Answer::Memory,
+    }
+}
+
+#[test]
+fn answers(rt: HostRuntime) {
+    let rows: [(&[u8], Answer); 29] = [
+        (b"", Answer::Nothing),
+        (b" -- only a comment", Answer::Nothing),
+        (
+            b"CREATE TABLE T (a INT, b DEC(2), c TEXT)",
+            Answer::Found(Line::Create),
+        ),
+        (
+            b"insert into \"table\" values (1, 'it''s'), (-2.50, '')",
+            Answer::Found(Line::Insert),
+        ),
+        (b"LOAD T BYTES 12", Answer::Found(Line::Load)),
+        (
+            b"UPDATE T SET a = 1, b = 'x' WHERE a <> b",
+            Answer::Found(Line::Update),
+        ),
+        (b"DELETE FROM T", Answer::Found(Line::Delete)),
+        (
+            b"DELETE FROM T WHERE a = 1 OR b BETWEEN 1 AND 2 AND NOT c IN ('x', -1)",
+            Answer::Found(Line::Delete),
+        ),
+        (
+            b"PARTITION T ON (a, b) SIZE 100 RADIUS 0.5",
+            Answer::Found(Line::Partition),
+        ),
+        (b"VACUUM 3", Answer::Found(Line::Vacuum)),
+        (b"BEGIN", Answer::Found(Line::Begin)),
+        (b"Commit", Answer::Found(Line::Commit)),
+        (b"rollback", Answer::Found(Line::Rollback)),
+        (b"CERTIFICATE", Answer::Found(Line::Certificate)),
+        (b"SELECT PACKAGE(T) AS P FROM T", Answer::Found(Line::Query)),
+        (b"BEGIN #", Answer::Lex(6)),
+        (b"SELEC", Answer::Syntax(0)),
+        (b"BEGIN BEGIN", Answer::Syntax(6)),
+        (b"VACUUM 1.5", Answer::Syntax(7)),
+        (b"VACUUM 1234567890123456789", Answer::Syntax(7)),
+        (b"DELETE FROM where", Answer::Syntax(12)),
+        (b"CREATE TABLE T (a DEC)", Answer::Syntax(21)),
+        (b"INSERT INTO T VALUES (1,)", Answer::Syntax(24)),
+        (b"DELETE FROM T WHERE (a = 1", Answer::Syntax(26)),
+        (
+            b"DELETE FROM T WHERE ((((((((((((((((((((((((((((((((((((((((((((((((((((((((((((((((v = 1))))))))))))))))))))))))))))))))))))))))))))))))))))))))))))))))",
+            Answer::Found(Line::Delete),
+        ),
+        (
+            b"DELETE FROM T WHERE NOT NOT NOT NOT NOT NOT NOT NOT NOT NOT NOT NOT NOT NOT NOT NOT NOT NOT NOT NOT NOT NOT NOT NOT NOT NOT NOT NOT NOT NOT NOT NOT NOT NOT NOT NOT NOT NOT NOT NOT NOT NOT NOT NOT NOT NOT NOT NOT NOT NOT NOT NOT NOT NOT NOT NOT NOT NOT NOT NOT NOT NOT NOT NOT v IN (1)",
+            Answer::Found(Line::Delete),
+        ),
+        (
+            b"DELETE FROM T WHERE (((((((((((((((((((((((((((((((((((((((((((((((((((((((((((((((((",
+            Answer::Deep(84),
+        ),
+        (
+            b"DELETE FROM T WHERE NOT NOT NOT NOT NOT NOT NOT NOT NOT NOT NOT NOT NOT NOT NOT NOT NOT NOT NOT NOT NOT NOT NOT NOT NOT NOT NOT NOT NOT NOT NOT NOT NOT NOT NOT NOT NOT NOT NOT NOT NOT NOT NOT NOT NOT NOT NOT NOT NOT NOT NOT NOT NOT NOT NOT NOT NOT NOT NOT NOT NOT NOT NOT NOT NOT ",
+            Answer::Deep(276),
+        ),
+        (
+            b"DELETE FROM T WHERE a (((((((((((((((((((((((((((((((((((((((((((((((((((((((((((((((((",
+            Answer::Syntax(22),
+        ),
+    ];
+    for (text, want) in rows {
+        assert_eq!(rt; answer_of(rt.alloc(), text), want);
+    }
+}
+
+fn is_number(lit: &Lit, want: Scaled) -> bool {
+    match lit {
+        Lit::Num(number) => *number == want,
+        Lit::Text(_) => false,
+    }
+}
+
+#[test]
+fn brackets_of_and_are_gone(rt: HostRuntime) -> Result<(), Fail> {
+    let text = b"DELETE FROM T WHERE a = 1 AND (b = 2 AND c BETWEEN -1 AND 2.50)";
+    let found = parse(rt.alloc(), text)
+        .ok()
+        .ok_or("the text spells a statement")?;
+    let Some(
+        Statement::Delete {
+            filter: Some(Pred::And(parts)),
+            ..
+        },
+    ) = found
+    else {
+        return Err("the statement is a DELETE with an AND".into())
+    };
+    assert_eq!(rt; parts.len(), 3);
+    let Some(Pred::Between { low, high, .. }) = parts.get(2) else {
+        return Err("the last part is a BETWEEN".into())
+    };
+    assert!(rt; is_number(low, Scaled::new(-1, 0)));
+    assert!(rt; is_number(high, Scaled::new(25, 1)));
+    one_tree();
+    Ok(())
+}
