@@ -1,6 +1,8 @@
 use super::*;
 use crate::predicates::MAX_DEPTH;
 use formal_grammar::Why;
+use paql_ast::aggregates::{Plain, SumItem, Term};
+use paql_ast::predicates::CmpOp;
 use paql_lexer::{Token, tokens};
 use std::test::*;
 
@@ -165,5 +167,94 @@ fn answers(rt: HostRuntime) {
     ];
     for (text, want) in rows {
         assert_eq!(rt; answer_of(rt.alloc(), text), want);
+    }
+}
+
+fn tree_of(alloc: Global, text: &[u8]) -> Option<Query> {
+    let Ok(tokens) = tokens(alloc, text) else {
+        return None;
+    };
+    let source = Source {
+        text,
+        tokens: tokens.as_slice(),
+    };
+    match query(alloc, MAX_DEPTH, source) {
+        Ok((query, _)) => Some(query),
+        Err(_) => None,
+    }
+}
+
+/// Whether the item is a COUNT of this package, with this sign, and a factor or none.
+fn is_count(item: &SumItem, minus: bool, package: Option<&[u8]>, factor: Option<i128>) -> bool {
+    match &item.term {
+        Term::Agg { factor: times, agg } => {
+            let counted = match &agg.plain {
+                Plain::Count(Some(name)) => Some(name.as_slice()),
+                Plain::Count(None) => None,
+                Plain::Sum(_) => return false,
+            };
+            let times = match times {
+                Some(times) => Some(times.mant),
+                None => None,
+            };
+            item.minus == minus && counted == package && times == factor
+        }
+        Term::Number(_) => false,
+    }
+}
+
+#[test]
+fn trees(rt: HostRuntime) {
+    let text =
+        b"SELECT PACKAGE(R) P FROM Recipes AS R AT VERSION 3 REPEAT 0 SUCH THAT COUNT(*) - COUNT(Q.*) + 02.0 * COUNT(P.*) BETWEEN -2.50 AND 7 AND AVG(v) > 1 MINIMIZE -COUNT(P.*) USING SKETCHREFINE BUDGET 50";
+    let Some(query) = tree_of(rt.alloc(), text) else {
+        assert!(rt; false);
+        return;
+    };
+    assert!(rt; query.of.as_slice() == b"R".as_slice());
+    assert!(rt; query.package.as_slice() == b"P".as_slice());
+    assert!(rt; query.table.as_slice() == b"Recipes".as_slice());
+    assert!(rt; query.alias.is_some());
+    assert_eq!(rt; query.version, Some(3));
+    assert_eq!(rt; query.repeat, Some(0));
+    assert!(rt; query.filter.is_none());
+    assert_eq!(rt; query.method, Some(Method::SketchRefine));
+    assert_eq!(rt; query.budget, Some(50));
+    match query.conjuncts.as_slice() {
+        [
+            Conjunct::Between { sum, low, high },
+            Conjunct::Avg {
+                column,
+                op: CmpOp::Gt,
+                limit,
+            },
+        ] => {
+            assert_eq!(rt; sum.len(), 3);
+            assert_eq!(rt;
+                (low.mant, low.scale, high.mant, high.scale),
+                (-25, 1, 7, 0)
+            );
+            assert!(rt; column.prefix.is_none());
+            assert_eq!(rt; limit.mant, 1);
+            for (place, item) in sum.as_slice().iter().enumerate() {
+                assert!(rt;
+                    match place {
+                        0 => is_count(item, false, None, None),
+                        1 => is_count(item, true, Some(b"Q"), None),
+                        _ => is_count(item, false, None, Some(2)),
+                    }
+                );
+            }
+        }
+        _ => assert!(rt; false),
+    }
+    match &query.goal {
+        Some(goal) => {
+            assert!(rt; !goal.maximize);
+            for item in goal.parts.as_slice() {
+                assert!(rt; is_count(item, true, None, None));
+            }
+        }
+        None => assert!(rt; false),
     }
 }
