@@ -1,0 +1,8 @@
+//! A session's bytes cut into statements and bodies, and the replies that answer them.
+#![tactic(auto)]
+
+mod framer;
+mod scan;
+
+pub use framer::{Awaited, Body, Framed, Framer, MAX_BODY};
+pub use scan::MAX_FRAME;
