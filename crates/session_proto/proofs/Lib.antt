@@ -1,3 +1,6 @@
 pub mod ScanSteps
 pub mod FrameSteps
 pub mod NextSteps
+pub mod Framing
+pub mod SessionSteps
+pub mod OneNext

@@ -1,3 +1,4 @@
 pub mod Frames
 pub mod Scans
 pub mod Input
+pub mod Sessions

@@ -220,3 +220,6 @@ fn let_go(held: &mut Vec<u8>, start: usize) -> usize
     held.truncate(left);
     0
 }
+
+#[cfg(test)]
+mod tests;

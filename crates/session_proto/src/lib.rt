@@ -2,6 +2,7 @@
 #![tactic(auto)]
 
 mod framer;
+pub mod laws;
 mod scan;
 
 pub use framer::{Awaited, Body, Framed, Framer, MAX_BODY};
