@@ -4,3 +4,5 @@ pub mod NextSteps
 pub mod Framing
 pub mod SessionSteps
 pub mod OneNext
+pub mod Puts
+pub mod Texts

@@ -3,7 +3,10 @@
 
 mod framer;
 pub mod laws;
+pub mod names;
+mod replies;
 mod scan;
 
 pub use framer::{Awaited, Body, Framed, Framer, MAX_BODY};
+pub use replies::{Field, Member, Reply, reply_bytes};
 pub use scan::MAX_FRAME;
