@@ -38,7 +38,7 @@ put_greater key members i item within is greater before value =
     let fields = map member_of members in
     let rest = drop (i + 1) fields in
     let here : put key value (member_of item ∷ rest) ≡ member_of item ∷ put key value rest =
-      ap (λ (o : Ordering). match_ordering o ((key, value) ∷ (member_of item ∷ rest)) (((member_of item).0, value) ∷ rest) (member_of item ∷ put key value rest)) greater in
+    ap (λ (o : Ordering). match_ordering o ((key, value) ∷ (member_of item ∷ rest)) (((member_of item).0, value) ∷ rest) (member_of item ∷ put key value rest)) greater in
     before value
     ∙ (ap (λ (w : Fields). take i fields ++ put key value w) (fields_at members i item within is)
     ∙ (ap (λ (w : Fields). take i fields ++ w) here
@@ -50,33 +50,37 @@ pub put_less : (key : List ℕ) (members : List Member) (i : ℕ) (item : Member
 put_less key members i item within is less before =
     let fields = map member_of members in
     let rest = drop (i + 1) fields in
-    let inside : i ≤ length fields = omega (arith, length-map members member_of, within) in
-    (inside, λ (value : FieldData).
-      let here : put key value (member_of item ∷ rest) ≡ (key, value) ∷ (member_of item ∷ rest) =
-        ap (λ (o : Ordering). match_ordering o ((key, value) ∷ (member_of item ∷ rest)) (((member_of item).0, value) ∷ rest) (member_of item ∷ put key value rest)) less in
-      before value
-      ∙ (ap (λ (w : Fields). take i fields ++ put key value w) (fields_at members i item within is)
-      ∙ (ap (λ (w : Fields). take i fields ++ w) here
-      ∙ ap (λ (w : Fields). take i fields ++ (key, value) ∷ w) (sym (fields_at members i item within is)))))
+    let inside : i ≤ length fields = omega (arith, length-map members member_of, within) in (
+      inside,
+      λ (value : FieldData).
+          let here : put key value (member_of item ∷ rest) ≡ (key, value) ∷ (member_of item ∷ rest) =
+          ap (λ (o : Ordering). match_ordering o ((key, value) ∷ (member_of item ∷ rest)) (((member_of item).0, value) ∷ rest) (member_of item ∷ put key value rest)) less in
+          before value
+          ∙ (ap (λ (w : Fields). take i fields ++ put key value w) (fields_at members i item within is)
+          ∙ (ap (λ (w : Fields). take i fields ++ w) here
+          ∙ ap (λ (w : Fields). take i fields ++ (key, value) ∷ w) (sym (fields_at members i item within is)))),
+    )
 
 -- at the same key
 pub put_equal : (key : List ℕ) (members : List Member) (i : ℕ) (item : Member) → i < length members → item ≡ get_or members i item → slice_cmp nat_cmp key (string_bytes item.key) ≡ Equal → PutsFrom key (map member_of members) i → IsPlaceOf key (map member_of members) i true
 put_equal key members i item within is equal before =
     let fields = map member_of members in
     let rest = drop (i + 1) fields in
-    let inside : i < length fields = omega (arith, length-map members member_of, within) in
-    (inside, λ (name : List ℕ) (kept value : FieldData) (found : slice_get fields i ≡ Some (name, kept)).
-      let here : put key value (member_of item ∷ rest) ≡ ((member_of item).0, value) ∷ rest =
-        ap (λ (o : Ordering). match_ordering o ((key, value) ∷ (member_of item ∷ rest)) (((member_of item).0, value) ∷ rest) (member_of item ∷ put key value rest)) equal in
-      let same : (name, kept) ≡ member_of item =
-        sym (get_or_from_slice_get fields i (name, kept) (member_of item) found) ∙ (get_or-map member_of members i item (member_of item) within ∙ ap member_of (sym is)) in
-      let names : (member_of item).0 ≡ name = ap (λ (m : List ℕ × FieldData). m.0) (sym same) in
-      let split : set fields i (name, value) ≡ take i fields ++ (name, value) ∷ rest =
-        set_split fields i (name, value) inside ∙ ap (λ (n : ℕ). take i fields ++ (name, value) ∷ drop n fields) (sym (add-one i)) in
-      before value
-      ∙ (ap (λ (w : Fields). take i fields ++ put key value w) (fields_at members i item within is)
-      ∙ (ap (λ (w : Fields). take i fields ++ w) here
-      ∙ (ap (λ (n : List ℕ). take i fields ++ (n, value) ∷ rest) names ∙ sym split))))
+    let inside : i < length fields = omega (arith, length-map members member_of, within) in (
+      inside,
+      λ (name : List ℕ) (kept value : FieldData) (found : slice_get fields i ≡ Some (name, kept)).
+          let here : put key value (member_of item ∷ rest) ≡ ((member_of item).0, value) ∷ rest =
+          ap (λ (o : Ordering). match_ordering o ((key, value) ∷ (member_of item ∷ rest)) (((member_of item).0, value) ∷ rest) (member_of item ∷ put key value rest)) equal in
+          let same : (name, kept) ≡ member_of item =
+          sym (get_or_from_slice_get fields i (name, kept) (member_of item) found) ∙ (get_or-map member_of members i item (member_of item) within ∙ ap member_of (sym is)) in
+          let names : (member_of item).0 ≡ name = ap (λ (m : List ℕ × FieldData). m.0) (sym same) in
+          let split : set fields i (name, value) ≡ take i fields ++ (name, value) ∷ rest =
+          set_split fields i (name, value) inside ∙ ap (λ (n : ℕ). take i fields ++ (name, value) ∷ drop n fields) (sym (add-one i)) in
+          before value
+          ∙ (ap (λ (w : Fields). take i fields ++ put key value w) (fields_at members i item within is)
+          ∙ (ap (λ (w : Fields). take i fields ++ w) here
+          ∙ (ap (λ (n : List ℕ). take i fields ++ (n, value) ∷ rest) names ∙ sym split))),
+    )
 
 -- ---- the field put there
 
@@ -86,10 +90,10 @@ put_same key members now at item value changed same is names values place =
     let place' : IsPlaceOf key fields at true = subst (λ (w : List Member). IsPlaceOf key (map member_of w) at true) same place in
     let within : at < length members = omega (arith, length-map members member_of, place'.0) in
     let found : slice_get fields at ≡ Some (member_of item) =
-      slice_get-get_or fields at (member_of item) place'.0
-      ∙ ap (λ (m : List ℕ × FieldData). Some m) (get_or-map member_of members at item (member_of item) within ∙ ap member_of (sym is)) in
+    slice_get-get_or fields at (member_of item) place'.0
+    ∙ ap (λ (m : List ℕ × FieldData). Some m) (get_or-map member_of members at item (member_of item) within ∙ ap member_of (sym is)) in
     let is_changed : member_of changed ≡ (string_bytes item.key, value) =
-      ap (λ (k : List ℕ). (k, field_of changed.value)) (ap string_bytes names) ∙ ap (λ (v : FieldData). (string_bytes item.key, v)) values in
+    ap (λ (k : List ℕ). (k, field_of changed.value)) (ap string_bytes names) ∙ ap (λ (v : FieldData). (string_bytes item.key, v)) values in
     map-set member_of members at changed
     ∙ (ap (λ (m : List ℕ × FieldData). set fields at m) is_changed
     ∙ sym (place'.1 (string_bytes item.key) (field_of item.value) value found))
@@ -99,7 +103,7 @@ put_new key members now at made value same names values place =
     let fields = map member_of members in
     let place' : IsPlaceOf key fields at false = subst (λ (w : List Member). IsPlaceOf key (map member_of w) at false) same place in
     let is_made : member_of made ≡ (key, value) =
-      ap (λ (k : List ℕ). (k, field_of made.value)) names ∙ ap (λ (v : FieldData). (key, v)) values in
+    ap (λ (k : List ℕ). (k, field_of made.value)) names ∙ ap (λ (v : FieldData). (key, v)) values in
     map-append member_of (take at members) (made ∷ drop at members)
     ∙ (ap (λ (w : Fields). w ++ member_of made ∷ map member_of (drop at members)) (sym (take-map member_of at members))
     ∙ (ap (λ (w : Fields). take at fields ++ member_of made ∷ w) (sym (drop-map member_of at members))
@@ -125,7 +129,7 @@ put_behind : (first : List ℕ × FieldData) (key : List ℕ) (value : FieldData
 put_behind first key value [] less ascends = (less, tt)
 put_behind first key value (next ∷ fields) less ascends =
     put_behind_first first next key value fields (slice_cmp nat_cmp key next.0) refl less ascends
-      (λ (later : slice_cmp nat_cmp next.0 key ≡ Less). put_behind next key value fields later ascends.1)
+    (λ (later : slice_cmp nat_cmp next.0 key ≡ Less). put_behind next key value fields later ascends.1)
 
 put_at_first : (first : List ℕ × FieldData) (key : List ℕ) (value : FieldData) (fields : Fields) (o : Ordering) → slice_cmp nat_cmp key first.0 ≡ o → Ascends (first ∷ fields)
     → Ascends (match_ordering o ((key, value) ∷ (first ∷ fields)) ((first.0, value) ∷ fields) (first ∷ put key value fields))

@@ -13,9 +13,9 @@ pub put_front : (key : List ℕ) (value : FieldData) (fields : List (List ℕ ×
 put_front key value [] ascends = refl
 put_front key value (next ∷ fields) ascends =
     ap (λ (o : Ordering). match_ordering o
-      (json.member key (field_data value) (members_data (next ∷ fields)))
-      (json.member next.0 (field_data value) (members_data fields))
-      (json.member next.0 (field_data next.1) (json.put key (field_data value) (members_data fields)))) ascends.0
+    (json.member key (field_data value) (members_data (next ∷ fields)))
+    (json.member next.0 (field_data value) (members_data fields))
+    (json.member next.0 (field_data next.1) (json.put key (field_data value) (members_data fields)))) ascends.0
 
 -- no float stands in a reply
 no_float_pairs : (list : List Pair) → items_have_float (items_of (map pair_data list)) ≡ false

@@ -1,5 +1,5 @@
 -- Replies: fields whose keys ascend, and the line of JSON that they are.
-use Rattle.std.specs.Prelude.{◌≡◌, ℕ, ◌<◌, ◌≤◌, Bool, true, false, List, [], ◌∷◌, ◌++◌, length, map, insert, slice_get, slice_set, Some, string_bytes}
+use Rattle.std.specs.Prelude.{◌≡◌, ℕ, ◌<◌, ◌≤◌, Bool, true, false, List, [], ◌∷◌, ◌++◌, length, map, codes, insert, slice_get, slice_set, Some, string_bytes}
 use Rattle.std.specs.Cmp.Lexicographic.{slice_cmp}
 use Rattle.std.specs.Ordering.{nat_cmp, match_ordering}
 use Rattle.std.specs.declared.cmp.Ordering.TheVariants.{Less}
@@ -78,3 +78,9 @@ members_data (first ∷ members) = json.member first.0 (field_data first.1) (mem
 abbrev pub reply_text : ReplyData → List ℕ
 reply_text reply = compact_text (json.object (members_data reply.members)) ++ 10 ∷ reply.tail
 
+-- the reply that refuses a statement and says no more than why
+abbrev pub refusal : List ℕ → ReplyData
+refusal error = record {
+  members = (codes "error", text error) ∷ ((codes "status", text (codes "refused")) ∷ []);
+  tail = [];
+}

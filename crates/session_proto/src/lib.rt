@@ -8,5 +8,5 @@ mod replies;
 mod scan;
 
 pub use framer::{Awaited, Body, Framed, Framer, MAX_BODY};
-pub use replies::{Field, Member, Reply, reply_bytes};
+pub use replies::{Field, Member, Reply, memory_line, reply_bytes};
 pub use scan::MAX_FRAME;

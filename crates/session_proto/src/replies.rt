@@ -1,10 +1,11 @@
 //! Replies: what answers a statement, as fields and as bytes.
-ghost use Rattle.std.specs.Prelude.{◌≡◌, [], map, IfOk, OnOk};
+ghost use Rattle.std.specs.Prelude.{◌≡◌, [], ◌∷◌, map, codes, IfOk, OnOk};
 ghost use Rattle.serde_json.specs.Data.{object};
 ghost use Rattle.serde_json.specs.Written.{compact_text};
 ghost use Rattle.serde_json.specs.View.{view, items_view, members_view};
-ghost use Rattle.session_proto.specs.Replies.{Ascends, put, field_of, member_of, field_data, pair_data, pairs_data, members_data, reply_text, IsPlaceOf};
+ghost use Rattle.session_proto.specs.Replies.{text, Ascends, put, refusal, field_of, member_of, field_data, pair_data, pairs_data, members_data, reply_text, IsPlaceOf};
 
+use crate::names::{keys, statuses};
 use package_judge::{Package, Pair};
 use serde_json::{Map, Value, json};
 use std::alloc::{AllocError, Global};
@@ -59,12 +60,52 @@ impl Reply {
     /// One field more, at its place. It takes the place of a field with the same key.
     pub fn with(self, alloc: Global, key: &str, value: Field) -> Result<Reply, AllocError>
         ensures { IfOk result (λ reply. reply ≡ record {
-            members = put key.now (field_of value) self.members; tail = self.tail }) }
+          members = put key.now (field_of value) self.members;
+          tail = self.tail;
+        }) }
     {
         let Reply { members, tail } = self;
         let mut members = members;
         put_in(alloc, &mut members, key, value)?;
         Ok(Reply { members, tail })
+    }
+
+    /// One text more.
+    pub fn with_text(self, alloc: Global, key: &str, words: &str) -> Result<Reply, AllocError>
+        ensures { IfOk result (λ reply. reply ≡ record {
+          members = put key.now (text words.now) self.members;
+          tail = self.tail;
+        }) }
+    {
+        let words = String::from_str(alloc, words)?;
+        self.with(alloc, key, Field::Text(words))
+    }
+
+    /// The same reply with other bytes behind its line.
+    pub fn with_tail(self, tail: Vec<u8>) -> Reply
+        ensures { result ≡ record { members = self.members; tail = tail.items } }
+    {
+        Reply {
+            members: self.members,
+            tail,
+        }
+    }
+
+    /// A reply that has a status alone.
+    pub fn of_status(alloc: Global, status: &str) -> Result<Reply, AllocError>
+        ensures { IfOk result (λ reply. reply ≡ record {
+          members = (codes "status", text status.now) ∷ [];
+          tail = [];
+        }) }
+    {
+        Reply::new(alloc).with_text(alloc, keys::STATUS, status)
+    }
+
+    /// A refusal with no further keys.
+    pub fn refused(alloc: Global, error: &str) -> Result<Reply, AllocError>
+        ensures { IfOk result (λ reply. reply ≡ refusal error.now) }
+    {
+        Reply::of_status(alloc, statuses::REFUSED)?.with_text(alloc, keys::ERROR, error)
     }
 
     /// The fields, in the order of their keys.
@@ -178,3 +219,13 @@ pub fn reply_bytes(alloc: Global, reply: &Reply) -> Result<Vec<u8>, AllocError>
     bytes.extend_from_slice(reply.tail())?;
     Ok(bytes)
 }
+
+/// The line that refuses a statement for want of memory. It takes none.
+pub fn memory_line() -> &'static [u8]
+    ensures { result.now ≡ reply_text (refusal (codes "memory")) }
+{
+    b"{\"error\":\"memory\",\"status\":\"refused\"}\n"
+}
+
+#[cfg(test)]
+mod tests;

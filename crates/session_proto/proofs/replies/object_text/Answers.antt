@@ -12,5 +12,5 @@ pub returns : goal.returns
 returns c =
     let fields = map member_of c.args.members.now in
     let seen : view (Object c.in_ok-object_of.field-0) ≡ object (members_data fields) =
-      view-Object c.in_ok-object_of.field-0 ∙ ap object c.in_ok-object_of.ensures in
+    view-Object c.in_ok-object_of.field-0 ∙ ap object c.in_ok-object_of.ensures in
     c.in_ok-text.ensures.text (ap has_float seen ∙ no_float fields) ∙ ap compact_text seen
