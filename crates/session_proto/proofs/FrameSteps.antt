@@ -1,13 +1,12 @@
 -- Lemmas on frames, and on those without a token that are skipped.
-use Rattle.std.proofs.Common.{◌≡◌, ℕ, ◌+◌, ◌-◌, ◌<◌, ◌≤◌, Bool, true, false, List, [], ◌∷◌, ◌++◌, length, get_or, take, drop, Some, slice_get, IsTrue, IsFalse, refl, sym, ap, ◌∙◌, subst, append_assoc, arith}
+use Rattle.std.proofs.Common.{◌≡◌, ℕ, ◌+◌, ◌-◌, ◌≤◌, List, [], ◌∷◌, ◌++◌, length, take, drop, IsTrue, refl, sym, ap, ◌∙◌, subst, append_assoc, arith}
 use Rattle.std.specs.List.{AllByRecursion, flat_map}
 use Rattle.std.proofs.lemmas.Grind.{flat_map-append}
 use Rattle.std.proofs.lemmas.List.{append-nil, drop_more, drop-drop, take-append-drop, length-drop, length-take-le, take_rest}
 use Rattle.std.proofs.lemmas.Option.{get_or_from_slice_get, slice_get_within}
-use Rattle.session_proto.specs.Frames.{is_code, place_behind, is_blank, closed, IsFrame, IsBlankFrame, Skips}
+use Rattle.session_proto.specs.Frames.{is_code, is_blank, closed, IsFrame, IsBlankFrame, Skips}
 use Rattle.session_proto.specs.Scans.{is_blank_scan, IsScan, StandsAtEnd}
 use Rattle.session_proto.specs.declared.scan.Place.{Place}
-use Rattle.session_proto.specs.declared.scan.Place.TheVariants as places
 use Rattle.session_proto.specs.declared.scan.Scan.{Scan}
 use Rattle.session_proto.proofs.ScanSteps.{is_blank-read}
 

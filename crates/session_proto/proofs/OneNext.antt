@@ -1,9 +1,9 @@
 -- One call gives one thing.
-use Rattle.std.proofs.Common.{◌≡◌, ℕ, ◌+◌, ◌<◌, ◌≤◌, Option, None, Some, List, [], ◌∷◌, ◌++◌, length, take, inl, inr, refl, sym, ap, ◌∙◌, subst, length-append, arith}
-use Rattle.session_proto.specs.Input.{Input, Content, absent, held, skipped, Given, GivesStatement, GivesContent, IsContent, IsPartial, Needs, IsTooLong, IsNext, statement, content, need, too_long}
+use Rattle.std.proofs.Common.{◌≡◌, ℕ, Option, None, Some, List, length, inl, inr, refl, sym, ap, ◌∙◌, subst, length-append, arith}
+use Rattle.session_proto.specs.Input.{Input, Content, absent, held, skipped, GivesStatement, GivesContent, IsContent, IsPartial, Needs, IsTooLong, statement, content, need, too_long}
 use Rattle.session_proto.specs.Sessions.{OneNext}
 use Rattle.session_proto.specs.declared.framer.Awaited.{Awaited}
-use Rattle.session_proto.proofs.Framing.{NoFrame, no_frame_open, no_frame_too_long, statement_once, no_statement, rest_once}
+use Rattle.session_proto.proofs.Framing.{no_frame_open, no_frame_too_long, statement_once, no_statement, rest_once}
 use Rattle.session_proto.proofs.SessionSteps.{parts_once, some_once}
 
 none_some : {A : Type 0} (o : Option A) (x : A) → o ≡ None → o ≡ Some x → ⊥

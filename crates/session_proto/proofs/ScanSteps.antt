@@ -1,8 +1,8 @@
 -- Lemmas on scans that go on by one byte.
-use Rattle.std.proofs.Common.{◌≡◌, ℕ, ◌+◌, ◌<◌, ◌≤◌, Bool, true, false, not, ◌||◌, ◌&&◌, List, [], ◌∷◌, ◌++◌, length, get_or, take, drop, IsTrue, IsFalse, refl, sym, ap, ◌∙◌, subst, length-append, arith}
+use Rattle.std.proofs.Common.{◌≡◌, ℕ, ◌+◌, ◌<◌, ◌≤◌, Bool, true, false, not, ◌||◌, ◌&&◌, List, [], ◌∷◌, ◌++◌, length, get_or, take, IsFalse, refl, sym, ap, ◌∙◌, subst, length-append, arith}
 use Rattle.std.proofs.lemmas.List.{take_more, take_all, take-append-le}
-use Rattle.session_proto.specs.Frames.{after, shows, ends, is_code, place_behind, IsOpen, shows_token, is_dash, is_blank}
-use Rattle.session_proto.specs.Scans.{scan_behind, is_blank_scan, IsRead, IsScan, StandsAtEnd}
+use Rattle.session_proto.specs.Frames.{after, shows, ends, place_behind, IsOpen, shows_token, is_dash, is_blank}
+use Rattle.session_proto.specs.Scans.{scan_behind, is_blank_scan, IsRead, IsScan}
 use Rattle.session_proto.specs.declared.scan.Place.{Place}
 use Rattle.session_proto.specs.declared.scan.Place.TheVariants as places
 use Rattle.session_proto.specs.declared.scan.Scan.{Scan}

@@ -1,15 +1,14 @@
 -- What a session's frames are after each call of a framer.
-use Rattle.std.proofs.Common.{◌≡◌, ℕ, ◌+◌, ◌-◌, ◌<◌, ◌≤◌, min, Bool, Option, None, Some, List, [], ◌∷◌, ◌++◌, length, take, drop, inl, inr, refl, sym, ap, ◌∙◌, subst, append_assoc, length-append, arith}
+use Rattle.std.proofs.Common.{◌≡◌, ℕ, ◌+◌, ◌-◌, ◌<◌, ◌≤◌, min, Option, None, Some, List, [], ◌∷◌, ◌++◌, length, take, drop, inl, inr, refl, sym, ap, ◌∙◌, subst, append_assoc, length-append, arith}
 use Rattle.std.specs.Prelude.{nat_le, if◌then◌else◌}
 use Rattle.std.proofs.lemmas.Bool.{cond-true, cond-false, le-leb, lt-leb}
-use Rattle.std.proofs.lemmas.List.{append_cancel_left, take-append-drop, take_at, drop_at, length-take-le, drop_all, nil_from_length}
-use Rattle.session_proto.specs.Frames.{IsOpen, IsStatement, Skips, closed}
-use Rattle.session_proto.specs.Input.{Input, Content, absent, held, skipped, Given, owed, paid, settled, fed, asked, awaiting, HoldsNothingOwed, GivesStatement, GivesContent, IsContent, IsPartial, Needs, IsTooLong, IsNext, statement, content, need, too_long}
-use Rattle.session_proto.specs.Sessions.{Frame, Takes, IsFirst, Begins, NoneWhole, AreFrames, StandsBetween, StandsBehind, Stands, OneFraming, StandsAtFirst, StandsFed, StandsAfterStatement, StandsAwaiting, StandsAfterBody, NeedsAtEnd, TooLongAtEnd}
+use Rattle.std.proofs.lemmas.List.{take-append-drop, take_at, drop_at, length-take-le, drop_all, nil_from_length}
+use Rattle.session_proto.specs.Frames.{IsStatement, Skips, closed}
+use Rattle.session_proto.specs.Input.{Input, Content, absent, held, skipped, settled, asked, HoldsNothingOwed, IsContent, IsPartial, Needs}
+use Rattle.session_proto.specs.Sessions.{Frame, Takes, IsFirst, Begins, NoneWhole, StandsBehind, OneFraming, StandsAtFirst, StandsFed, StandsAfterStatement, StandsAwaiting, StandsAfterBody, NeedsAtEnd, TooLongAtEnd}
 use Rattle.session_proto.specs.declared.framer.Awaited.{Awaited}
-use Rattle.session_proto.specs.declared.scan.Place.TheVariants as places
 use Rattle.session_proto.proofs.FrameSteps.{skips_none, skips_more, skips_append}
-use Rattle.session_proto.proofs.Framing.{NoFrame, no_frame_open, no_frame_long, statement_once, no_statement}
+use Rattle.session_proto.proofs.Framing.{no_frame_open, no_frame_long, statement_once, no_statement}
 
 -- ---- one framing
 

@@ -1,12 +1,11 @@
 -- Lemmas on replies as JSON.
-use Rattle.std.proofs.Common.{◌≡◌, ℕ, Bool, true, false, ◌||◌, List, [], ◌∷◌, map, Ordering, Less, nat_cmp, refl, sym, ap, ◌∙◌}
-use Rattle.std.specs.Cmp.Lexicographic.{slice_cmp}
+use Rattle.std.proofs.Common.{◌≡◌, ℕ, Bool, false, ◌||◌, List, [], ◌∷◌, map, Ordering, refl, ap, ◌∙◌}
 use Rattle.std.specs.Ordering.{match_ordering}
 use Rattle.serde_json.specs.Data as json
 use Rattle.serde_json.specs.View.{items_of}
 use Rattle.serde_json.specs.Written.{has_float, items_have_float, members_have_float}
 use Rattle.package_judge.specs.declared.packages.Pair.{Pair}
-use Rattle.session_proto.specs.Replies.{FieldData, num, text, pairs, flag, Ascends, pair_data, pairs_data, field_data, members_data}
+use Rattle.session_proto.specs.Replies.{FieldData, num, text, pairs, flag, Ascends, pair_data, field_data, members_data}
 
 -- a least key goes to the front
 pub put_front : (key : List ℕ) (value : FieldData) (fields : List (List ℕ × FieldData)) → Ascends ((key, value) ∷ fields) → json.put key (field_data value) (members_data fields) ≡ members_data ((key, value) ∷ fields)

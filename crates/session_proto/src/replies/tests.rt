@@ -30,6 +30,17 @@ fn field_of(alloc: Global, given: Given) -> Result<Option<Field>, AllocError> {
     }
 }
 
+fn reply_of(alloc: Global, fields: &[(&str, Given)]) -> Result<Option<Reply>, AllocError> {
+    let mut reply = Reply::new(alloc);
+    for (key, given) in fields {
+        let Some(field) = field_of(alloc, *given)? else {
+            return Ok(None);
+        };
+        reply = reply.with(alloc, key, field)?;
+    }
+    Ok(Some(reply))
+}
+
 #[test]
 fn replies_are_lines(rt: HostRuntime) -> Result<(), Fail> {
     let alloc = rt.alloc();
@@ -111,17 +122,11 @@ fn replies_are_lines(rt: HostRuntime) -> Result<(), Fail> {
         ),
     ];
     for (fields, tail, want) in cases {
-        let mut reply = Reply::new(alloc);
-        for (key, given) in fields {
-            let field = field_of(alloc, *given)?;
-            assert!(rt; field.is_some());
-            if let Some(field) = field {
-                reply = reply.with(alloc, key, field)?;
-            }
-        }
+        let Some(reply) = reply_of(alloc, fields)? else {
+            return Err(Fail::new("no package"));
+        };
         let reply = reply.with_tail(Vec::from_slice(alloc, tail)?);
         assert_eq!(rt; reply.tail(), tail);
-        assert!(rt; reply.members().len() <= fields.len());
         let bytes = reply_bytes(alloc, &reply)?;
         assert_eq!(rt; bytes.as_slice(), want.as_bytes());
     }

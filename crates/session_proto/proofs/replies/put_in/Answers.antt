@@ -1,4 +1,4 @@
-use Rattle.std.proofs.Common.{map, ap, ◌∙◌, refl, true, false, subst, Bool}
+use Rattle.std.proofs.Common.{map, ap, ◌∙◌, refl, subst, Bool}
 use Rattle.session_proto.specs.Replies.{IsPlaceOf, member_of, field_of}
 use Rattle.session_proto.proofs.Puts.{put_same, put_new}
 use Rattle.session_proto.proofs.replies.put_in.Goals as goal

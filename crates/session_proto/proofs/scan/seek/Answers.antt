@@ -1,6 +1,5 @@
-use Rattle.std.proofs.Common.{◌≡◌, ◌+◌, ◌-◌, length, List, ℕ, drop, take, sym, ◌∙◌, subst, arith}
-use Rattle.std.proofs.lemmas.List.{take_rest}
-use Rattle.session_proto.specs.Scans.{StandsAtEnd, IsScan}
+use Rattle.std.proofs.Common.{◌-◌, length, drop, take, sym, ◌∙◌}
+use Rattle.session_proto.specs.Scans.{StandsAtEnd}
 use Rattle.session_proto.proofs.FrameSteps.{skips_on}
 use Rattle.session_proto.proofs.scan.seek.Goals as goal
 

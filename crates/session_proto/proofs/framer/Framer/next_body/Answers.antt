@@ -1,4 +1,4 @@
-use Rattle.std.proofs.Common.{◌≡◌, ◌∙◌, sym, ap, refl}
+use Rattle.std.proofs.Common.{◌∙◌, sym, ap, refl}
 use Rattle.session_proto.specs.Input.{Input}
 use Rattle.session_proto.proofs.NextSteps.{content_here}
 use Rattle.session_proto.proofs.framer.Framer.next_body.Goals as goal

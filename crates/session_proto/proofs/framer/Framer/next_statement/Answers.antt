@@ -1,8 +1,6 @@
-use Rattle.std.proofs.Common.{◌≡◌, None, ◌∙◌, ◌++◌, List, ℕ, drop, sym, ap, subst, refl}
-use Rattle.session_proto.specs.Frames.{closed, is_blank, IsStatement, Skips}
+use Rattle.std.proofs.Common.{◌≡◌, None, ◌∙◌, ◌++◌, drop, ap, subst}
+use Rattle.session_proto.specs.Frames.{closed, Skips}
 use Rattle.session_proto.specs.Input.{Input}
-use Rattle.session_proto.specs.Scans.{StandsAtEnd, is_blank_scan}
-use Rattle.std.specs.Prelude.{IsFalse}
 use Rattle.session_proto.proofs.NextSteps.{statement_here, too_long_here, owes_nothing}
 use Rattle.session_proto.proofs.framer.Framer.next_statement.Goals as goal
 
