@@ -6,3 +6,5 @@ pub mod SessionSteps
 pub mod OneNext
 pub mod Puts
 pub mod Texts
+pub mod Feeds
+pub mod OneReply

@@ -1,5 +1,6 @@
 -- Replies: fields whose keys ascend, and the line of JSON that they are.
-use Rattle.std.specs.Prelude.{◌≡◌, ℕ, ◌<◌, ◌≤◌, Bool, true, false, List, [], ◌∷◌, ◌++◌, length, map, codes, insert, slice_get, slice_set, Some, string_bytes}
+use Rattle.std.specs.Prelude.{◌≡◌, ℕ, ◌^◌, ◌<◌, ◌≤◌, Bool, true, false, List, [], ◌∷◌, ◌++◌, length, map, codes, insert, slice_get, slice_set, Some, string_bytes}
+use Rattle.std.specs.List.{AllByRecursion}
 use Rattle.std.specs.Cmp.Lexicographic.{slice_cmp}
 use Rattle.std.specs.Ordering.{nat_cmp, match_ordering}
 use Rattle.std.specs.declared.cmp.Ordering.TheVariants.{Less}
@@ -84,3 +85,24 @@ refusal error = record {
   members = (codes "error", text error) ∷ ((codes "status", text (codes "refused")) ∷ []);
   tail = [];
 }
+
+-- ---- a law
+
+-- The numbers fit their types.
+abbrev pub FitsPair : Pair → Type 0
+FitsPair pair = (pair.id < 2 ^ 64) × (pair.count < 2 ^ 64)
+
+abbrev pub FitsField : FieldData → Type 0
+FitsField (num number) = number < 2 ^ 64
+FitsField (text words) = Unit {0}
+FitsField (pairs list) = AllByRecursion FitsPair list
+FitsField (flag truth) = Unit {0}
+
+abbrev pub FitsMember : List ℕ × FieldData → Type 0
+FitsMember member = FitsField member.1
+
+-- Different replies have different bytes.
+abbrev pub OneReply : Type 0
+OneReply = (one other : ReplyData)
+    → AllByRecursion FitsMember one.members → AllByRecursion FitsMember other.members
+    → reply_text one ≡ reply_text other → one ≡ other

@@ -1,4 +1,5 @@
-//! Laws of frames: what a framer gives doesn't depend on how the bytes were cut into pieces.
+//! Laws of frames and of replies. What a framer gives doesn't depend on how the bytes were cut into pieces.
+ghost use Rattle.session_proto.specs.Replies.{OneReply};
 ghost use Rattle.session_proto.specs.Sessions.{OneFraming, StandsAtFirst, StandsFed, StandsAfterStatement, StandsAwaiting, StandsAfterBody, NeedsAtEnd, TooLongAtEnd, OneNext};
 
 /// The bytes of a session have one list of frames and one rest.
@@ -44,4 +45,9 @@ pub fn needs_at_end()
 /// Where a frame is too long, no bytes that come make a further frame.
 pub fn too_long_at_end()
     ensures { TooLongAtEnd }
+{}
+
+/// Different replies have different bytes.
+pub fn one_reply()
+    ensures { OneReply }
 {}
