@@ -8,3 +8,4 @@ pub mod Puts
 pub mod Texts
 pub mod Feeds
 pub mod OneReply
+pub mod PieceSteps

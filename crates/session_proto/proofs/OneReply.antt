@@ -1,19 +1,17 @@
 -- Different replies have different bytes.
-use Rattle.std.proofs.Common.{◌≡◌, ℕ, suc, ◌+◌, ◌^◌, ◌<◌, ◌≤◌, max, Bool, Some, List, [], ◌∷◌, ◌++◌, map, decimal, refl, sym, ap, ◌∙◌, arith}
+use Rattle.std.proofs.Common.{◌≡◌, ℕ, ◌≤◌, Some, List, [], ◌∷◌, decimal, refl, sym, ap, ◌∙◌, arith}
 use Rattle.std.specs.List.{AllByRecursion}
 use Rattle.std.proofs.lemmas.Fmt.{decimal_injective}
 use Rattle.json.specs.Json as tree
 use Rattle.json.specs.Json.{document, max_depth}
-use Rattle.json.specs.Print.{print}
-use Rattle.json.specs.Tree.{json_tokens, depth, items_depth, members_depth, HasNumbers, ItemsHaveNumbers, MembersHaveNumbers}
+use Rattle.json.specs.Tree.{depth, items_depth, members_depth, HasNumbers, ItemsHaveNumbers, MembersHaveNumbers}
 use Rattle.json.proofs.Printed.Decimals.{IsNumber-decimal}
 use Rattle.json.proofs.Printed.Trees.{document-print}
 use Rattle.serde_json.specs.Data as json
-use Rattle.serde_json.specs.View.{items_of}
 use Rattle.serde_json.specs.Written.{outline, items_outline, members_outline, compact_text}
 use Rattle.serde_json.proofs.Texts.{print-outline}
 use Rattle.package_judge.specs.declared.packages.Pair.{Pair}
-use Rattle.session_proto.specs.Replies.{FieldData, num, text, pairs, flag, ReplyData, pair_data, pairs_data, field_data, members_data, FitsPair, FitsField, FitsMember, OneReply}
+use Rattle.session_proto.specs.Replies.{FieldData, num, text, pairs, flag, ReplyData, pairs_data, field_data, members_data, FitsPair, FitsField, FitsMember, OneReply}
 use Rattle.session_proto.proofs.Feeds.{no_feed_object, line_once}
 
 -- ---- the text is read back as the value

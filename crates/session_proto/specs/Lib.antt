@@ -1,4 +1,5 @@
 pub mod Frames
+pub mod Pieces
 pub mod Scans
 pub mod Input
 pub mod Sessions

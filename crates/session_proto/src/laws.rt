@@ -1,6 +1,12 @@
 //! Laws of frames and of replies. What a framer gives doesn't depend on how the bytes were cut into pieces.
+ghost use Rattle.session_proto.specs.Pieces.{FramesAreOfPieces};
 ghost use Rattle.session_proto.specs.Replies.{OneReply};
 ghost use Rattle.session_proto.specs.Sessions.{OneFraming, StandsAtFirst, StandsFed, StandsAfterStatement, StandsAwaiting, StandsAfterBody, NeedsAtEnd, TooLongAtEnd, OneNext};
+
+/// The text of a frame is texts, comments and single bytes, and each such text is one.
+pub fn frames_are_of_pieces()
+    ensures { FramesAreOfPieces }
+{}
 
 /// The bytes of a session have one list of frames and one rest.
 pub fn one_framing()
