@@ -9,3 +9,4 @@ pub mod Texts
 pub mod Feeds
 pub mod OneReply
 pub mod PieceSteps
+pub mod CleanEnds

@@ -33,7 +33,7 @@ frame_same f g text given =
     let two : middle ≡ g = ap (λ (c : Content). record { text = g.text; content = c }) given in
     one ∙ two
 
-first_once : (wants : List ℕ → Option ℕ) (bytes : List ℕ) (f g : Frame) (x y : List ℕ) → IsFirst wants bytes f x → IsFirst wants bytes g y → (f ≡ g) × (x ≡ y)
+pub first_once : (wants : List ℕ → Option ℕ) (bytes : List ℕ) (f g : Frame) (x y : List ℕ) → IsFirst wants bytes f x → IsFirst wants bytes g y → (f ≡ g) × (x ≡ y)
 first_once wants bytes f g x y one other =
     let same = statement_once bytes f.text g.text one.behind other.behind one.is_statement other.is_statement one.first other.first in
     let takes : Takes (wants f.text) one.behind g.content y =

@@ -1,6 +1,6 @@
 -- The frames of a session's bytes: its statements with what stands behind each, and the rest.
-use Rattle.std.specs.Prelude.{◌≡◌, ℕ, ◌+◌, nat_le, if◌then◌else◌, List, [], ◌∷◌, ◌++◌, length, Option, None, Some}
-use Rattle.session_proto.specs.Frames.{IsStatement, Skips, closed}
+use Rattle.std.specs.Prelude.{◌≡◌, ◌↔◌, IsTrue, ℕ, ◌+◌, nat_le, if◌then◌else◌, List, [], ◌∷◌, ◌++◌, length, Option, None, Some}
+use Rattle.session_proto.specs.Frames.{is_blank, IsStatement, Skips, closed}
 use Rattle.session_proto.specs.Input.{Input, Content, absent, held, skipped, HoldsNothingOwed, Given, IsNext, statement, content, need, too_long, fed, awaiting}
 use Rattle.session_proto.specs.declared.framer.Awaited.{Awaited}
 
@@ -120,6 +120,18 @@ TooLongAtEnd = (wants : List ℕ → Option ℕ) (bytes more : List ℕ) (frames
     (input after : Input)
     → Stands wants bytes frames None input → IsNext input too_long after
     → (rest : List ℕ) × AreFrames wants (bytes ++ more) frames (rest ++ more)
+
+-- Behind the last frame stand only space, comments and blank frames.
+abbrev pub EndsClean : List ℕ → Type 0
+EndsClean rest = (left : List ℕ) × Skips rest left × IsTrue (is_blank left)
+
+-- Where more bytes are needed, a framer is clean exactly where the bytes end so.
+abbrev pub CleanAtEnd : Type 0
+CleanAtEnd = (wants : List ℕ → Option ℕ) (bytes : List ℕ) (frames : List Frame)
+    (before : Option (List ℕ)) (input after : Input) (rest : List ℕ)
+    → Stands wants bytes frames before input → IsNext input need after
+    → AreFrames wants bytes frames rest
+    → ((after.awaited ≡ None) × IsTrue (is_blank after.left)) ↔ EndsClean rest
 
 -- What a call gives and leaves follows from the bytes left and the body awaited.
 abbrev pub OneNext : Type 0

@@ -1,7 +1,7 @@
 //! Laws of frames and of replies. What a framer gives doesn't depend on how the bytes were cut into pieces.
 ghost use Rattle.session_proto.specs.Pieces.{FramesAreOfPieces};
 ghost use Rattle.session_proto.specs.Replies.{OneReply};
-ghost use Rattle.session_proto.specs.Sessions.{OneFraming, StandsAtFirst, StandsFed, StandsAfterStatement, StandsAwaiting, StandsAfterBody, NeedsAtEnd, TooLongAtEnd, OneNext};
+ghost use Rattle.session_proto.specs.Sessions.{OneFraming, StandsAtFirst, StandsFed, StandsAfterStatement, StandsAwaiting, StandsAfterBody, NeedsAtEnd, CleanAtEnd, TooLongAtEnd, OneNext};
 
 /// The text of a frame is texts, comments and single bytes, and each such text is one.
 pub fn frames_are_of_pieces()
@@ -46,6 +46,11 @@ pub fn stands_after_body()
 /// Where `next` needs more bytes, all frames of the bytes so far were given.
 pub fn needs_at_end()
     ensures { NeedsAtEnd }
+{}
+
+/// Where `next` needs more bytes, the framer is clean exactly where the bytes so far end clean.
+pub fn clean_at_end()
+    ensures { CleanAtEnd }
 {}
 
 /// Where a frame is too long, no bytes that come make a further frame.
