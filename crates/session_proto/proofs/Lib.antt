@@ -1,0 +1,12 @@
+pub mod ScanSteps
+pub mod FrameSteps
+pub mod NextSteps
+pub mod Framing
+pub mod SessionSteps
+pub mod OneNext
+pub mod Puts
+pub mod Texts
+pub mod Feeds
+pub mod OneReply
+pub mod PieceSteps
+pub mod CleanEnds

@@ -1,0 +1,5 @@
+use Rattle.session_proto.proofs.SessionSteps.{needs_at_end}
+use Rattle.session_proto.proofs.laws.needs_at_end.Goals as goal
+
+pub returns : goal.returns
+returns c = needs_at_end

@@ -1,0 +1,5 @@
+use Rattle.session_proto.proofs.SessionSteps.{stands_after_statement}
+use Rattle.session_proto.proofs.laws.stands_after_statement.Goals as goal
+
+pub returns : goal.returns
+returns c = stands_after_statement

@@ -1,0 +1,5 @@
+use Rattle.session_proto.proofs.SessionSteps.{too_long_at_end}
+use Rattle.session_proto.proofs.laws.too_long_at_end.Goals as goal
+
+pub returns : goal.returns
+returns c = too_long_at_end

@@ -1,0 +1,6 @@
+pub mod Frames
+pub mod Pieces
+pub mod Scans
+pub mod Input
+pub mod Sessions
+pub mod Replies
