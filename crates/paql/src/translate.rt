@@ -4,6 +4,7 @@ ghost use Rattle.paql.specs.Form.{InRange};
 ghost use Rattle.std.specs.List.{AllByRecursion};
 ghost use Rattle.paql.specs.Translation.{signed, coefficient, row_of, side_of, program_of, package_from, IsAnswered, TranslationKeepsMeaning};
 
+use crate::limits::row_bound;
 use lin_bound::Problem;
 use paql_ast::{Conjunct, Measure, Script, Side};
 use sqlite_items::Items;
@@ -22,7 +23,7 @@ pub fn program_of(alloc: Global, script: &Script) -> Result<Problem, AllocError>
         rhs.push(signed(conjunct.side, conjunct.limit))?;
     }
     let cost = Items::from_slice(alloc, values)?;
-    let upper = vec![in alloc; script.query.repeat + 1; values.len()]?;
+    let upper = vec![in alloc; row_bound(&script.query); values.len()]?;
     Ok(Problem::new(cost, rows, rhs, Items::from_vec(upper)))
 }
 
