@@ -6,3 +6,4 @@ pub mod Duality
 pub mod OnePoint
 pub mod Halves
 mod Cuts
+mod Paths
