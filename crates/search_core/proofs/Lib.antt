@@ -1,3 +1,4 @@
 mod Widths
 mod Steps
 pub mod Nodes
+mod Table

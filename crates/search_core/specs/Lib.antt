@@ -1,3 +1,6 @@
 pub mod Boxes
 pub mod Search
 pub mod Nodes
+pub mod Core
+pub mod Moves
+pub mod Kept
