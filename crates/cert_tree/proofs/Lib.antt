@@ -3,3 +3,6 @@ pub mod Bounds
 pub mod Assembled
 pub mod Laying
 pub mod Balance
+pub mod Values
+pub mod Multipliers
+pub mod Paths

@@ -1,5 +1,5 @@
 //! What trees show, each proved for every problem.
-ghost use Rattle.cert_tree.specs.Laws.{CertifiedIsBest, CertifiedIsEmpty, PartialBounds, AssembledCertifies, AssembledPartly};
+ghost use Rattle.cert_tree.specs.Laws.{CertifiedIsBest, CertifiedIsEmpty, PartialBounds, AssembledCertifies, AssembledPartly, AssembledLegal};
 
 use lin_bound::{closed_holds_none, halves_cover, weak_duality};
 
@@ -36,4 +36,9 @@ pub fn assembled_certifies()
 /// Where some path is left and each record is right, it is a partial certificate of as many nodes as there are records.
 pub fn assembled_partly()
     ensures { AssembledPartly }
+{}
+
+/// Where the multipliers of each record are legal, so are those of each node of the tree made of them.
+pub fn assembled_legal()
+    ensures { AssembledLegal }
 {}

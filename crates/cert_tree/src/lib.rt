@@ -9,7 +9,8 @@ mod records;
 
 pub use assembly::assemble;
 pub use laws::{
-    assembled_certifies, assembled_partly, certified_is_best, certified_is_empty, partial_bounds,
+    assembled_certifies, assembled_legal, assembled_partly, certified_is_best, certified_is_empty,
+    partial_bounds,
 };
 pub use nodes::{Tree, TreeNode};
 pub use records::{Act, Record};
