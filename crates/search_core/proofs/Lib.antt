@@ -2,3 +2,7 @@ mod Widths
 mod Steps
 pub mod Nodes
 mod Table
+mod Handling
+mod Hands
+mod Keeping
+mod Histories

@@ -62,8 +62,7 @@ pub dropped : (before after : CoreState) (worker place : ℕ) (got : Hand) → I
 dropped before after worker place got held is hands left budget best records =
     let same : got ≡ held.0 = is ∙ get_or_from_slice_get before.hands place held.0 got held.1 in
     let there : slice_get before.hands place ≡ Some got = held.1 ∙ ap Some (sym same) in
-    let holds : Holds before.hands worker got = (found_at before.hands place got there, ap (λ (h : Hand). h.worker) same ∙ held.2) in
-    (
+    let holds : Holds before.hands worker got = (found_at before.hands place got there, ap (λ (h : Hand). h.worker) same ∙ held.2) in (
       (got, holds),
       record {
         hand = got;
@@ -84,8 +83,7 @@ looked before after worker place found value held is value_is hands budget left 
     let of : found.worker ≡ worker = ap (λ (h : Hand). h.worker) same ∙ held.2 in
     let holds : Holds before.hands worker found = (found_at before.hands place found there, of) in
     let new : in_hand found.worker found.path (Looked value) ≡ in_hand worker found.path (Looked (value_in before.best)) =
-    ap (λ (w : ℕ). in_hand w found.path (Looked value)) of ∙ ap (λ (v : Option ℤ). in_hand worker found.path (Looked v)) value_is in
-    (
+    ap (λ (w : ℕ). in_hand w found.path (Looked value)) of ∙ ap (λ (v : Option ℤ). in_hand worker found.path (Looked v)) value_is in (
       (found, holds),
       record {
         hand = found;

@@ -1,13 +1,12 @@
 -- What holds of a search after any list of events.
-use Rattle.std.specs.Prelude.{◌≡◌, ℕ, ◌≤◌, ◌==◌, Bool, List, ◌++◌, map, All, count_by, ℤ, ◌≤ℤ◌, Option, None, Some}
+use Rattle.std.specs.Prelude.{◌≡◌, ℕ, ◌≤◌, ◌==◌, if◌then◌else◌, List, ◌++◌, map, All, sum_by, ℤ, Option}
 use Rattle.lin_bound.specs.Problem.{ProblemData}
 use Rattle.lin_bound.specs.declared.path.Branch.{Branch}
-use Rattle.lin_bound.specs.Bound.{IsMult}
-use Rattle.cert_tree.specs.declared.records.Act.{Act}
-use Rattle.cert_tree.specs.declared.records.Act.TheVariants.{Closed, Split}
 use Rattle.cert_tree.specs.declared.records.Record.{Record}
 use Rattle.cert_tree.specs.Records.{IsBalanced}
 use Rattle.cert_tree.specs.Laws.{IsPlainlyRight}
+use Rattle.cert_tree.specs.Multipliers.{ActIsLegal}
+use Rattle.cert_tree.specs.Values.{IsAtMost}
 use Rattle.search_core.specs.Search.{IsFound, value_in}
 use Rattle.search_core.specs.Core.{CoreState, begun}
 use Rattle.search_core.specs.declared.event.Seen.{Seen}
@@ -17,19 +16,12 @@ use Rattle.search_core.specs.declared.event.Hand.{Hand}
 abbrev pub path_held : Hand → List Branch
 path_held hand = hand.path
 
--- whether the node is this worker's
-abbrev pub is_of : ℕ → Hand → Bool
-is_of worker hand = worker == hand.worker
+-- how many nodes a worker has in hand
+abbrev pub one_of : ℕ → Hand → ℕ
+one_of worker hand = if worker == hand.worker then 1 else 0
 
--- (to come from the crate below)
-abbrev pub IsAtMost : Option ℤ → Option ℤ → Type 0
-IsAtMost None best = Unit {0}
-IsAtMost (Some seen) None = ⊥
-IsAtMost (Some seen) (Some best) = seen ≤ℤ best
-
-abbrev pub IsLegalAct : ProblemData → Act → Type 0
-IsLegalAct p (Closed mult) = IsMult p mult
-IsLegalAct p (Split var at mult) = IsMult p mult
+abbrev pub nodes_of : ℕ → List Hand → ℕ
+nodes_of worker hands = sum_by (one_of worker) hands
 
 -- the value looked at, where there is one, is not above the best
 abbrev pub SeenBelow : Option ℤ → Seen → Type 0
@@ -43,7 +35,7 @@ pub record IsKept (p : ProblemData) (state : CoreState) : Type 0 where
   pub balanced : IsBalanced state.records (state.left ++ map path_held state.hands)
   pub found : IsFound p state.best
   pub right : All (λ (done : Record). IsPlainlyRight p (value_in state.best) done.path done.act) state.records
-  pub legal : All (λ (done : Record). IsLegalAct p done.act) state.records
-  pub one_each : (worker : ℕ) → count_by (is_of worker) state.hands ≤ 1
+  pub legal : All (λ (done : Record). ActIsLegal p done.act) state.records
+  pub one_each : (worker : ℕ) → nodes_of worker state.hands ≤ 1
   pub seen : All (λ (hand : Hand). SeenBelow (value_in state.best) hand.seen) state.hands
   pub within : begun state ≤ state.budget

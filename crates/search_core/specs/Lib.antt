@@ -4,3 +4,4 @@ pub mod Nodes
 pub mod Core
 pub mod Moves
 pub mod Kept
+pub mod Runs

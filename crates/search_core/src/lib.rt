@@ -3,6 +3,8 @@
 
 mod boxes;
 mod event;
+mod laws;
+mod machine;
 mod multipliers;
 mod node;
 mod solved;
@@ -10,8 +12,10 @@ mod solver;
 mod state;
 
 pub use event::{Event, Hand, Seen, Stepped};
+pub use laws::{best_is_offered, runs_keep, splits_were_open};
+pub use machine::Core;
 pub use node::{Handled, Proposal, Work, handle_node, split_place};
-pub use solved::Solved;
+pub use solved::{Found, Solved};
 pub use solver::SoloSolver;
 
 #[cfg(test)]

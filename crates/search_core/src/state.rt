@@ -1,9 +1,10 @@
 //! Where a search stands, and each row of the table of its events.
 ghost use Rattle.std.specs.Prelude.{◌≡◌, ◌≢◌, [], ◌∷◌, ◌++◌, ◌+◌, ◌<◌, ◌≤◌, ◌↔◌, IsTrue, length, IfOk, OnErr, MatchOption, Contains, slice_get, Some, remove};
+ghost use Rattle.lin_bound.specs.Problem.{IsFeasible};
 ghost use Rattle.lin_bound.specs.Bound.{IsMult};
 ghost use Rattle.cert_tree.specs.Records.{lower, upper};
 ghost use Rattle.search_core.specs.Nodes.{IsAbove};
-ghost use Rattle.search_core.specs.Core.{begun, IsBusy, IsHeldAt, IsReady, Outcome, IsTaken, IsLooked, IsRecorded, IsDropped};
+ghost use Rattle.search_core.specs.Core.{begun, IsBusy, IsHeldAt, IsReady, Outcome, IsTaken, IsLooked, IsOffered, IsRecorded, IsDropped};
 ghost use Rattle.search_core.specs.Kept.{IsKept};
 ghost use Rattle.search_core.specs.Moves.{IsClosing, IsSplitting};
 
@@ -72,11 +73,11 @@ fn is_above(value: i64, best: Option<i64>) -> bool
 impl State {
     /// A search with these records and open paths, and no node in hand.
     pub fn new(
+        alloc: Global,
         budget: u32,
         records: Vec<Record>,
         left: Vec<Path>,
         best: Option<Found>,
-        alloc: Global,
     ) -> State
         ensures { result ≡ record { budget = budget; left = left.items; hands = []; best = best; records = records.items } }
     {
@@ -125,6 +126,20 @@ impl State {
             return Stepped::NotEnabled;
         };
         self.hands[place].seen = Seen::Looked(best_value(&self.best));
+        Stepped::Done
+    }
+
+    /// A point is offered.
+    pub fn offer(&mut self, problem: &Problem, point: Point) -> Stepped
+        ensures { Outcome (IsFeasible problem.now point) (IsOffered problem.now self.old point self.new) (self.new ≡ self.old) result }
+    {
+        if !problem.is_feasible(&point) {
+            return Stepped::NotEnabled;
+        }
+        let value = problem.cost_of(&point);
+        if is_above(value, best_value(&self.best)) {
+            self.best = Some(Found { value, point });
+        }
         Stepped::Done
     }
 
@@ -195,10 +210,11 @@ impl State {
         let Some(place) = place_of_hand(&self.hands, worker) else {
             return Ok(Stepped::NotEnabled);
         };
-        let Seen::Looked(seen) = self.hands[place].seen else {
+        let hand = &self.hands[place];
+        let Seen::Looked(seen) = hand.seen else {
             return Ok(Stepped::NotEnabled);
         };
-        let region = box_of(alloc, problem, &self.hands[place].path)?;
+        let region = box_of(alloc, problem, &hand.path)?;
         let mut work = Work::new(alloc, problem)?;
         match handle_node(problem, &region, seen, proposal, &mut work) {
             Handled::Better => return Ok(Stepped::NotEnabled),
