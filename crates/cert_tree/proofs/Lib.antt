@@ -3,6 +3,8 @@ pub mod Bounds
 pub mod Assembled
 pub mod Laying
 pub mod Balance
+pub mod Tops
+pub mod Walking
 pub mod Values
 pub mod Multipliers
 pub mod Paths
