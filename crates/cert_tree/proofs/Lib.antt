@@ -5,6 +5,7 @@ pub mod Laying
 pub mod Balance
 pub mod Tops
 pub mod Walking
+mod Worked
 pub mod Values
 pub mod Multipliers
 pub mod Paths
