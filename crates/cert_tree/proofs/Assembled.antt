@@ -36,7 +36,7 @@ whole_laid (path ∷ paths) (Split var at mult ∷ nodes) [] laid = absurd laid
 whole_laid (path ∷ paths) (Open ∷ nodes) [] laid = absurd laid
 
 -- the box of a child is the half of its parent's
-cut_push : (box : Region) (path : List Branch) (branch : Branch) → cut box (path ++ branch ∷ []) ≡ half branch (cut box path)
+pub cut_push : (box : Region) (path : List Branch) (branch : Branch) → cut box (path ++ branch ∷ []) ≡ half branch (cut box path)
 cut_push box [] branch = refl
 cut_push box (first ∷ path) branch = cut_push (half first box) path branch
 

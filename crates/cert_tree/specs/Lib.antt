@@ -3,6 +3,7 @@ pub mod Trees
 pub mod Pieces
 pub mod Certificates
 pub mod Partial
+pub mod Places
 pub mod Values
 pub mod Multipliers
 pub mod Laws

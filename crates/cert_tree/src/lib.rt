@@ -5,6 +5,7 @@
 mod assembly;
 mod laws;
 mod nodes;
+mod possible;
 mod records;
 
 pub use assembly::assemble;
@@ -13,6 +14,7 @@ pub use laws::{
     partial_bounds,
 };
 pub use nodes::{Tree, TreeNode};
+pub use possible::most_left;
 pub use records::{Act, Record};
 
 #[cfg(test)]
