@@ -206,4 +206,4 @@ keeps_run p before after (event ∷ events) kept runs = keeps_run p runs.1 after
 -- after a call that may have run out of memory
 pub keeps_call : {E : Type 0} (p : ProblemData) (before after : CoreState) (event : Event) (result : Result Stepped E) → IsKept p before → IfOk result (λ (outcome : Stepped). Steps p before event outcome after) → OnErr result (after ≡ before) → IsKept p after
 keeps_call p before after event (Ok outcome) kept steps same = keeps_step p before after event outcome kept steps
-keeps_call p before after event (Err error) kept steps same = subst (IsKept p) (sym (same tt)) kept
+keeps_call p before after event (Err error) kept steps same = subst (IsKept p) (sym same) kept

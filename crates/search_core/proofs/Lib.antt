@@ -1,4 +1,3 @@
-mod Widths
 mod Steps
 pub mod Nodes
 mod Table
@@ -6,3 +5,5 @@ mod Handling
 mod Hands
 mod Keeping
 mod Histories
+mod Going
+mod Ending

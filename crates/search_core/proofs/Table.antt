@@ -103,3 +103,14 @@ both_open old reserved one two hands place got seen below above var at within go
     let low : below ≡ got.path ++ lower var at ∷ [] = below_is ∙ ap (λ (h : Hand). h.path ++ lower var at ∷ []) same in
     let high : above ≡ got.path ++ upper var at ∷ [] = above_is ∙ ap (λ (h : Hand). h.path ++ upper var at ∷ []) same in
     second ∙ (ap (λ (paths : List (List Branch)). paths ++ below ∷ []) (first ∙ ap (λ (paths : List (List Branch)). paths ++ above ∷ []) kept) ∙ (append_assoc old (above ∷ []) (below ∷ []) ∙ (ap (λ (path : List Branch). old ++ path ∷ (below ∷ [])) high ∙ ap (λ (path : List Branch). old ++ (got.path ++ upper var at ∷ []) ∷ (path ∷ [])) low)))
+
+-- the path that was opened last moves to a hand
+pub taken_last : (before after : CoreState) (worker : ℕ) (path : List Branch) → before.left ≡ after.left ++ path ∷ [] → after.hands ≡ before.hands ++ in_hand worker path NotLooked ∷ [] → after.budget ≡ before.budget → after.best ≡ before.best → after.records ≡ before.records → IsTaken before worker path after
+taken_last before after worker path left hands budget best records =
+    record {
+      left = rw left (IsPermutation-to_front after.left path);
+      hands = rw hands (IsPermutation-to_front before.hands (in_hand worker path NotLooked));
+      budget = budget;
+      best = best;
+      records = records;
+    }

@@ -5,3 +5,5 @@ pub mod Core
 pub mod Moves
 pub mod Kept
 pub mod Runs
+pub mod Solo
+pub mod Solver

@@ -16,7 +16,4 @@ pub use laws::{best_is_offered, runs_keep, splits_were_open};
 pub use machine::Core;
 pub use node::{Handled, Proposal, Work, handle_node, split_place};
 pub use solved::{Found, Solved};
-pub use solver::SoloSolver;
-
-#[cfg(test)]
-mod tests;
+pub use solver::{SoloSolver, Solver, go_on};

@@ -1,10 +1,13 @@
 //! Where a search stands, and each row of the table of its events.
-ghost use Rattle.std.specs.Prelude.{◌≡◌, ◌≢◌, [], ◌∷◌, ◌++◌, ◌+◌, ◌<◌, ◌≤◌, ◌↔◌, IsTrue, length, IfOk, OnErr, MatchOption, Contains, slice_get, Some, remove};
+ghost use Rattle.std.specs.Prelude.{◌≡◌, ◌≢◌, [], ◌∷◌, ◌++◌, ◌+◌, ◌<◌, ◌≤◌, ◌↔◌, IsTrue, length, IfOk, OnErr, MatchOption, MatchBool, List, Contains, slice_get, Some, remove};
 ghost use Rattle.lin_bound.specs.Problem.{IsFeasible};
+ghost use Rattle.lin_bound.specs.Box.{box_at};
 ghost use Rattle.lin_bound.specs.Bound.{IsMult};
+ghost use Rattle.lin_bound.specs.declared.path.Branch.{Branch};
+ghost use Rattle.search_core.specs.declared.event.Hand.{Hand as HandData};
 ghost use Rattle.cert_tree.specs.Records.{lower, upper};
 ghost use Rattle.search_core.specs.Nodes.{IsAbove};
-ghost use Rattle.search_core.specs.Core.{begun, IsBusy, IsHeldAt, IsReady, Outcome, IsTaken, IsLooked, IsOffered, IsRecorded, IsDropped};
+ghost use Rattle.search_core.specs.Core.{begun, Holds, IsBusy, IsHeldAt, IsReady, Outcome, IsTaken, IsLooked, IsOffered, IsRecorded, IsDropped};
 ghost use Rattle.search_core.specs.Kept.{IsKept};
 ghost use Rattle.search_core.specs.Moves.{IsClosing, IsSplitting};
 
@@ -13,6 +16,7 @@ use crate::node::{Handled, Proposal, Work, handle_node};
 use crate::solved::{Found, best_value};
 use cert_tree::{Act, Record};
 use lin_bound::{Branch, Mult, Path, Point, Problem, box_of};
+use sqlite_items::Items;
 use std::alloc::{AllocError, Global};
 use std::marker::Model;
 
@@ -96,6 +100,55 @@ impl State {
     {
         let room = (self.budget as usize).saturating_sub(self.records.len());
         room <= self.hands.len()
+    }
+
+    /// Whether a path is open and a node may be begun.
+    pub fn has_next(&self) -> bool
+        ensures { MatchBool result ((self.now.left ≢ []) × (begun self.now < self.now.budget)) (self.now.left ≢ [] → self.now.budget ≤ begun self.now) }
+    {
+        !self.left.is_empty() && !self.is_spent()
+    }
+
+    /// What was recorded, the open paths, and the best point offered.
+    pub fn into_parts(self) -> (Vec<Record>, Vec<Path>, Option<Found>)
+        ensures records { result.0.items ≡ self.records }
+        ensures left { result.1.items ≡ self.left }
+        ensures best { result.2 ≡ self.best }
+    {
+        (self.records, self.left, self.best)
+    }
+
+    /// A worker takes the path that was opened last.
+    pub fn take_last(&mut self, worker: u32) -> Result<(), AllocError>
+        requires { self.old.left ≢ [] }
+        ensures ok { IfOk result (λ _. (path : List Branch) × IsTaken self.old worker path self.new) }
+        ensures err { OnErr result (self.new ≡ self.old) }
+    {
+        self.hands.reserve(1)?;
+        let Some(path) = self.left.pop() else {
+            return Ok(());
+        };
+        let seen = Seen::NotLooked;
+        self.hands.push_reserved(Hand { worker, path, seen });
+        Ok(())
+    }
+
+    /// The low ends of the box of a worker's node.
+    pub fn low_point(
+        &self,
+        alloc: Global,
+        problem: &Problem,
+        worker: u32,
+    ) -> Result<Point, AllocError>
+        requires kept { IsKept problem.now self.now }
+        requires busy { IsBusy self.now.hands worker }
+        ensures { IfOk result (λ point. (hand : HandData) × Holds self.now.hands worker hand × (point ≡ (box_at problem.now hand.path).low)) }
+    {
+        let Some(place) = place_of_hand(&self.hands, worker) else {
+            return Ok(Point::new(Items::new(alloc)));
+        };
+        let region = box_of(alloc, problem, &self.hands[place].path)?;
+        Ok(Point::new(region.low))
     }
 
     /// A worker takes an open path.
