@@ -9,3 +9,4 @@ mod Worked
 pub mod Values
 pub mod Multipliers
 pub mod Paths
+pub mod Counts

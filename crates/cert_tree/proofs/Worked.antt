@@ -1,6 +1,6 @@
 -- The trees that the tests write by hand certify in part.
-use Rattle.std.proofs.Common.{◌≡◌, ℕ, zero, suc, ◌≤◌, List, [], ◌∷◌, arith}
-use Rattle.std.specs.Prelude.{ℤ, negsuc, Option, None, Some}
+use Rattle.std.proofs.Common.{◌≡◌, ℕ, zero, suc, ◌*◌, ◌-◌, ◌≤◌, List, [], ◌∷◌, length, refl, arith}
+use Rattle.std.specs.Prelude.{ℤ, pos, negsuc, Option, None, Some}
 use Rattle.std.proofs.lemmas.Int.{ints}
 use Rattle.lin_bound.specs.Problem.{ProblemData}
 use Rattle.lin_bound.specs.Box.{whole_box, Splits}
@@ -10,6 +10,7 @@ use Rattle.cert_tree.specs.declared.nodes.TreeNode.{TreeNode}
 use Rattle.cert_tree.specs.declared.nodes.TreeNode.TheVariants.{Leaf, Split, Open}
 use Rattle.cert_tree.specs.Records.{lower}
 use Rattle.cert_tree.specs.Partial.{PlainlyOpen, PartlyCertify}
+use Rattle.cert_tree.specs.Counts.{points_below}
 
 -- the greatest of -3x - 4y with 2x + 3y >= 7, x at most 3 and y at most 2
 abbrev pub least_cost : ProblemData
@@ -60,3 +61,28 @@ pub half_closed_partly : (p : ProblemData) (nodes : List TreeNode) → p ≡ lea
 half_closed_partly p nodes p_is nodes_is =
     let known : PartlyCertify least_cost (Some (negsuc 9)) (whole_box least_cost ∷ []) half_closed_tree = (whole_splits, whole_open, (low_closes, tt)) in
     rw (p_is, nodes_is) known
+
+-- the problem of the tests has 4 * 3 points
+twelve_points : points_below least_cost.upper 2 ≡ 12
+twelve_points = refl
+
+-- a problem of two points, and a tree of it that has as many nodes as it can: three
+abbrev two_points : ProblemData
+two_points = record { cost = pos 1 ∷ []; rows = []; rhs = []; upper = 1 ∷ [] }
+
+abbrev full_tree : List TreeNode
+full_tree = Split 0 0 (record { d = 1; lambda = [] }) ∷ (Open ∷ (Open ∷ []))
+
+two_open : PlainlyOpen two_points (whole_box two_points) None
+two_open =
+    record { more = (0, omega arith, omega arith); unclosed = each }
+  where
+    each : (number : ℕ) → number ≤ 0 → ¬ Closes two_points (whole_box two_points) (plain two_points number) None
+    each zero h closed = absurd (omega (arith, closed.0))
+    each (suc number) h closed = absurd (omega (arith, h))
+
+full_partly : PartlyCertify two_points None (whole_box two_points ∷ []) full_tree
+full_partly = (record { var = omega arith; low = omega arith; high = omega arith }, two_open, tt)
+
+full_many : length full_tree ≡ 2 * points_below two_points.upper 1 - 1
+full_many = refl

@@ -6,4 +6,5 @@ pub mod Partial
 pub mod Places
 pub mod Values
 pub mod Multipliers
+pub mod Counts
 pub mod Laws

@@ -1,4 +1,5 @@
 //! What trees show, each proved for every problem.
+ghost use Rattle.cert_tree.specs.Counts.{NodesAreFew};
 ghost use Rattle.cert_tree.specs.Laws.{CertifiedIsBest, CertifiedIsEmpty, PartialBounds, AssembledCertifies, AssembledPartly, AssembledLegal};
 
 use lin_bound::{closed_holds_none, halves_cover, weak_duality};
@@ -42,3 +43,10 @@ pub fn assembled_partly()
 pub fn assembled_legal()
     ensures { AssembledLegal }
 {}
+
+/// A tree whose leaves are all boxes of the problem has fewer than twice as many nodes as there are points.
+pub fn nodes_are_few()
+    ensures { NodesAreFew }
+{
+    halves_cover();
+}
