@@ -1,26 +1,32 @@
 -- What a search ends with.
-use Rattle.std.proofs.Common.{◌≡◌, ◌≢◌, ℕ, ◌+◌, ◌≤◌, List, [], ◌∷◌, length, refl, sym, ap, subst, ◌∙◌, arith, All}
-use Rattle.std.specs.Prelude.{ℤ, Option, Some}
+use Rattle.std.proofs.Common.{◌≡◌, ◌≢◌, ℕ, zero, suc, ◌+◌, ◌-◌, ◌*◌, ◌<◌, ◌≤◌, List, [], ◌∷◌, length, refl, sym, ap, subst, ◌∙◌, arith, All}
+use Rattle.std.specs.Prelude.{ℤ, Option, Some, slice_index_or, count_by, if◌then◌else◌}
 use Rattle.std.proofs.lemmas.List.{append-nil}
+use Rattle.std.proofs.lemmas.List.Sums.{count_by-le-length, sum_by-cons}
 use Rattle.std.proofs.lemmas.List.Elements.{All-weaker, All-nil}
-use Rattle.lin_bound.specs.Problem.{ProblemData}
+use Rattle.lin_bound.specs.Problem.{ProblemData, variables, IsLegal}
 use Rattle.lin_bound.specs.Box.{whole_box}
 use Rattle.lin_bound.specs.declared.path.Branch.{Branch}
 use Rattle.cert_tree.specs.declared.nodes.TreeNode.{TreeNode}
+use Rattle.cert_tree.specs.declared.nodes.TreeNode.TheVariants.{Leaf, Split, Open}
 use Rattle.cert_tree.specs.declared.records.Record.{Record}
 use Rattle.cert_tree.specs.Records.{IsBalanced}
 use Rattle.cert_tree.specs.Trees.{IsAssembled}
-use Rattle.cert_tree.specs.Partial.{PartlyCertify, IsPartialCertificate}
+use Rattle.cert_tree.specs.Partial.{PartlyCertify, is_done, IsPartialCertificate}
 use Rattle.cert_tree.specs.Laws.{IsRight, IsPlainlyRight}
+use Rattle.cert_tree.specs.Counts.{points_below}
 use Rattle.cert_tree.specs.Multipliers.{ActIsLegal, HasLegalMult}
 use Rattle.cert_tree.proofs.Values.{right_of_plainly}
 use Rattle.cert_tree.proofs.Multipliers.{assembled_legal}
+use Rattle.lin_bound.proofs.Halves.{halves_cover}
+use Rattle.cert_tree.proofs.Counts.{nodes_are_few}
 use Rattle.cert_tree.proofs.Assembled.{assembled_certifies, assembled_parts, assembled_length, assembled_partly}
 use Rattle.search_core.specs.Search.{IsFound, value_in}
 use Rattle.search_core.specs.Core.{CoreState, begun}
 use Rattle.search_core.specs.Kept.{SeenBelow, IsKept}
 use Rattle.search_core.specs.Solo.{Reaches, IsAdvanced}
-use Rattle.search_core.specs.Solver.{IsProven}
+use Rattle.search_core.specs.Solver.{IsProven, IsUndecided, EnoughDecides}
+use Rattle.search_core.specs.declared.solved.Solved.TheVariants.{Best, NoneExists, Undecided}
 use Rattle.search_core.specs.declared.solved.Found.{Found}
 use Rattle.search_core.specs.declared.event.Hand.{Hand}
 use Rattle.search_core.proofs.Keeping.{keeps_run}
@@ -94,3 +100,24 @@ goes_further p budget before middle now going advanced = record {
   reaches = reaches_then p before middle now going.reaches advanced.reaches;
   budget_is = advanced.budget ∙ going.budget_is;
 }
+
+abbrev by_done : TreeNode → ℕ
+by_done node = if is_done node then 1 else 0
+
+-- an open leaf is a node that is not done
+open_undone : (nodes : List TreeNode) (place : ℕ) → place < length nodes → slice_index_or nodes place Open ≡ Open → count_by is_done nodes < length nodes
+open_undone [] place within is = absurd (omega (arith, within))
+open_undone (node ∷ nodes) zero within is = rw is (omega (arith, count_by-le-length is_done nodes, sum_by-cons by_done Open nodes))
+open_undone (Leaf mult ∷ nodes) (suc place) within is = omega (arith, sum_by-cons by_done (Leaf mult) nodes, open_undone nodes place (omega (arith, within)) is)
+open_undone (Split var at mult ∷ nodes) (suc place) within is = omega (arith, sum_by-cons by_done (Split var at mult) nodes, open_undone nodes place (omega (arith, within)) is)
+open_undone (Open ∷ nodes) (suc place) within is = omega (arith, sum_by-cons by_done Open nodes, open_undone nodes place (omega (arith, within)) is)
+
+undecided_short : (p : ProblemData) (budget : ℕ) (best : Option Found) (bound : ℤ) (nodes : List TreeNode) → IsLegal p → 2 * points_below p.upper (variables p) - 1 ≤ budget → IsUndecided budget p best bound nodes → ⊥
+undecided_short p budget best bound nodes legal enough undecided =
+    let partly = undecided.partly in
+    omega (arith, enough, partly.each, open_undone nodes partly.more.0 partly.more.1 partly.more.2, nodes_are_few halves_cover p (value_in best) nodes legal partly.parts)
+
+pub enough_decides : EnoughDecides
+enough_decides p budget (Best value point tree) legal enough solved = tt
+enough_decides p budget (NoneExists tree) legal enough solved = tt
+enough_decides p budget (Undecided best bound tree) legal enough solved = undecided_short p budget best bound tree legal enough solved

@@ -1,9 +1,10 @@
 -- What a solver answers.
-use Rattle.std.specs.Prelude.{◌≡◌, ◌≢◌, ℕ, ◌≤◌, List, [], ◌∷◌, length, ℤ, Option, None, Some}
-use Rattle.lin_bound.specs.Problem.{ProblemData, cost_at, IsFeasible}
+use Rattle.std.specs.Prelude.{◌≡◌, ◌≢◌, ℕ, ◌-◌, ◌*◌, ◌≤◌, List, [], ◌∷◌, length, ℤ, Option, None, Some}
+use Rattle.lin_bound.specs.Problem.{ProblemData, variables, cost_at, IsLegal, IsFeasible}
 use Rattle.lin_bound.specs.Box.{whole_box}
 use Rattle.cert_tree.specs.declared.nodes.TreeNode.{TreeNode}
 use Rattle.cert_tree.specs.Trees.{IsAssembled}
+use Rattle.cert_tree.specs.Counts.{points_below}
 use Rattle.cert_tree.specs.Certificates.{IsCertificate}
 use Rattle.cert_tree.specs.Partial.{PartlyCertify, IsPartialCertificate, most_left}
 use Rattle.search_core.specs.Search.{IsFound, value_in}
@@ -47,3 +48,14 @@ IsEndOf end (Undecided best bound tree) = IsEnd end best tree × (end.left ≢ [
 -- the answer is what a list of events leads to
 abbrev pub IsSearched : ProblemData → CoreState → Solved → Type 0
 IsSearched p before solved = (end : CoreState) × Reaches p before end × IsEndOf end solved
+
+-- the answer says what the problem comes to
+abbrev pub IsDecided : Solved → Type 0
+IsDecided (Best value point tree) = Unit {0}
+IsDecided (NoneExists tree) = Unit {0}
+IsDecided (Undecided best bound tree) = ⊥
+
+-- A budget of twice as many nodes as there are points, less one, decides.
+abbrev pub EnoughDecides : Type 0
+EnoughDecides = (p : ProblemData) (budget : ℕ) (solved : Solved)
+    → IsLegal p → 2 * points_below p.upper (variables p) - 1 ≤ budget → IsSolved p budget solved → IsDecided solved

@@ -12,7 +12,7 @@ mod solver;
 mod state;
 
 pub use event::{Event, Hand, Seen, Stepped};
-pub use laws::{best_is_offered, runs_keep, splits_were_open};
+pub use laws::{best_is_offered, enough_decides, runs_keep, splits_were_open};
 pub use machine::Core;
 pub use node::{Handled, Proposal, Work, handle_node, split_place};
 pub use solved::{Found, Solved};
