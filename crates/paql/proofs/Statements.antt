@@ -49,8 +49,10 @@ clause_parts budget ending rest e = ap (λ (l : List ℕ). l ++ rest) e ∙ appe
 pub ending_free : (a b : ℕ) (p q r s : List ℕ) → IsBudget a → IsBudget b → IsEnding a p → IsEnding b q → p ++ r ≡ q ++ s → (a ≡ b) × (r ≡ s)
 ending_free a b p q r s x y u v e = ⊎_elim
     (λ (plain : (a ≡ 2000) × (p ≡ codes ";")). ⊎_elim
-    (λ (other : (b ≡ 2000) × (q ≡ codes ";")). (plain.0 ∙ sym other.0,
-      append_cancel_left (codes ";") r s (ap (λ (l : List ℕ). l ++ r) (sym plain.1) ∙ e ∙ ap (λ (l : List ℕ). l ++ s) other.1)))
+    (λ (other : (b ≡ 2000) × (q ≡ codes ";")). (
+      plain.0 ∙ sym other.0,
+      append_cancel_left (codes ";") r s (ap (λ (l : List ℕ). l ++ r) (sym plain.1) ∙ e ∙ ap (λ (l : List ℕ). l ++ s) other.1),
+    ))
     (λ (other : q ≡ codes " BUDGET " ++ (decimal b ++ codes ";")).
     let whole : 59 ∷ r ≡ 32 ∷ (codes "BUDGET " ++ (budget_part b ++ s)) = ap (λ (l : List ℕ). l ++ r) (sym plain.1) ∙ e ∙ clause_parts b q s other in
     let heads : ◌≡◌ {A = ℕ} 59 32 = cc in absurd (omega (arith, heads))) v)

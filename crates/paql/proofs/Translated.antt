@@ -93,7 +93,7 @@ all_copies [] = 0
 all_copies (n ∷ x) = n + all_copies x
 
 copies_are : (values : List ℤ) (x : List ℕ) → length x ≡ length values → measure_total Count values x ≡ pos (all_copies x)
-unfolding measure_total, all_copies
+unfolding measure_total all_copies
 copies_are [] [] e = refl
 copies_are [] (n ∷ x) e = absurd (omega (arith, e))
 copies_are (v ∷ values) [] e = absurd (omega (arith, e))

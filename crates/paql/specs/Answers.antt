@@ -6,7 +6,8 @@ use Rattle.package_query.specs.Meaning.{Meets, worth, Best, Empty}
 use Rattle.paql_ast.specs.Asks.{query_of, rows_of}
 use Rattle.paql_ast.specs.declared.Script.{Script}
 use Rattle.paql.specs.Scripts.{IsScript}
-use Rattle.paql.specs.Translation.{program_of}
+use Rattle.paql.specs.Translation.{program_of, package_from}
+use Rattle.search_core.specs.declared.solved.Found.{Found}
 use Rattle.paql.specs.Replies.{created_line, inserted_line, optimal_line, infeasible_line, undecided_line, undecided_best_line, notbuilt_line}
 
 -- the line for a query: with a package that is best and its worth, or where no package meets it
@@ -27,6 +28,11 @@ worth_of script (Some pairs) = Some (worth (query_of script.query) (rows_of scri
 abbrev pub open_line : Script → ℤ → Option (List (ℕ × ℕ)) → List ℕ
 open_line script bound None = undecided_line bound script.query.budget
 open_line script bound (Some pairs) = undecided_best_line bound script.query.budget (worth (query_of script.query) (rows_of script.insert) pairs) pairs
+
+-- the same of what a search found
+abbrev pub left_line : ℕ → ℤ → Option Found → List ℕ
+left_line budget bound None = undecided_line bound budget
+left_line budget bound (Some found) = undecided_best_line bound budget found.value (package_from 1 found.point)
 
 -- The line where the budget is spent: a tree has exactly so many nodes done, the package shown meets the query, the bound
 -- shown is what the tree leaves possible above it, and no package that meets the query is worth more than that.

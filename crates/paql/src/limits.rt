@@ -9,7 +9,9 @@ use paql_ast::{Conjunct, Measure, Query, Script, Side};
 
 // The most values, the most copies of one row, and the greatest sum.
 const MOST_VALUES: usize = 100_000;
+
 const MOST_COPIES: u64 = 1_000_000;
+
 const MOST_SUM: u128 = 1 << 60;
 
 /// There are few enough values and copies, and no sum over them is too great: what a condition adds up is at most
