@@ -129,7 +129,8 @@ fn scripts_are_answered(rt: HostRuntime) -> Result<(), Fail> {
 fn budgets_are_kept(rt: HostRuntime) -> Result<(), Fail> {
     let alloc = rt.alloc();
     let none = "{\"bound\":\"6\",\"nodes\":1,\"status\":\"undecided\",\"version\":2}\n";
-    let four =
+    // Lower halves come first: 0 to 4, 0 to 2, 0 to 1, then the points 0 and 1.
+    let some =
         "{\"bound\":\"4\",\"nodes\":5,\"objective\":\"1\",\"package\":[[1,1]],\"status\":\"undecided\",\"version\":2}\n";
     let odd = "0 SUCH THAT SUM(P.v) <= 3 AND SUM(P.v) >= 3";
     for (values, query, ending, rows, want) in [
