@@ -1,11 +1,11 @@
 -- The program of an answered script is one that fits the machine's numbers.
-use Rattle.std.proofs.Common.{◌≡◌, ℕ, zero, suc, ◌+◌, ◌*◌, ◌^◌, ◌<◌, ◌≤◌, List, [], ◌∷◌, length, map, replicate, get_or, ℤ, neg_ℤ, sym, ◌∙◌, arith}
+use Rattle.std.proofs.Common.{◌≡◌, ℕ, zero, suc, ◌^◌, ◌<◌, ◌≤◌, List, [], ◌∷◌, length, map, get_or, ℤ, neg_ℤ, sym, ◌∙◌, arith}
 use Rattle.std.proofs.lemmas.Int.{ints}
 use Rattle.std.proofs.lemmas.List.{get_or-replicate, length-map, length-replicate}
 use Rattle.std.specs.Int.RustNames.{unsigned_abs}
 use Rattle.std.specs.List.{AllByRecursion}
-use Rattle.lin_bound.specs.Problem.{IsLegal, load}
-use Rattle.lin_bound.specs.Sums.{int_at, nat_at}
+use Rattle.lin_bound.specs.Problem.{IsLegal}
+use Rattle.lin_bound.specs.Sums.{int_at}
 use Rattle.paql_ast.specs.declared.Side.{Side}
 use Rattle.paql_ast.specs.declared.Side.TheVariants.{AtMost, AtLeast}
 use Rattle.paql_ast.specs.declared.Conjunct.{Conjunct}

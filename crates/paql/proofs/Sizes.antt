@@ -38,8 +38,6 @@ row_fits : (measure : Measure) (side : Side) (limit : ℤ) (values : List ℤ) (
     → load (replicate (length values) most) values (length values) ≤ 2 ^ 60
     → load (replicate (length values) most) (row_of values (record { measure = measure; side = side; limit = limit })) (length values) ≤ 2 ^ 60
 row_fits Count side limit values most few small goal =
-    let conjunct = record { measure = Count; side = side; limit = limit } in
-    let n = length values in
     let each = λ (i : ℕ) (l : i < length values).
     let upper = get_or-replicate (length values) i most 0 l in
     let adds : unsigned_abs (int_at (row_of values (record { measure = Count; side = side; limit = limit })) i) ≡ 1 =

@@ -17,7 +17,6 @@ use Rattle.paql.specs.Replies.{undecided_best_line}
 use Rattle.paql.specs.Translation.{program_of, package_from, IsAnswered}
 use Rattle.paql.proofs.Legal.{program_legal}
 use Rattle.paql.proofs.Translated.{translated, point_of}
-use Rattle.search_core.specs.Search.{IsFound, value_in}
 use Rattle.search_core.specs.Solver.{IsUndecided}
 use Rattle.search_core.specs.declared.solved.Found.{Found}
 

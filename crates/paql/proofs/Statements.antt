@@ -1,13 +1,12 @@
 -- The statements of a script: where each part of them stands in a text.
-use Rattle.std.proofs.Common.{◌≡◌, ◌⊎◌, ℕ, ◌+◌, ◌^◌, ◌≤◌, length, List, [], ◌∷◌, ◌++◌, ℤ, pos, codes, decimal, refl, sym, ◌∙◌, ap, inl, inr, append_assoc, append-nil, ⊎_elim, arith}
+use Rattle.std.proofs.Common.{◌≡◌, ◌⊎◌, ℕ, ◌^◌, ◌≤◌, length, List, [], ◌∷◌, ◌++◌, ℤ, pos, codes, decimal, refl, sym, ◌∙◌, ap, inl, inr, append_assoc, append-nil, ⊎_elim, arith}
 use Rattle.std.proofs.lemmas.List.{append_cancel_left}
 use Rattle.paql_ast.specs.declared.Conjunct.{Conjunct}
 use Rattle.paql_ast.specs.declared.Query.{Query}
 use Rattle.paql_ast.specs.declared.Script.{Script}
 use Rattle.paql.specs.Form.{InRange, HasLimit, AreItems, IsBudget, IsAsked, IsEnding, WritesQuery, joined, value_text, conjunct_text, insert_text, query_text, script_text}
-use Rattle.paql.specs.Reading.{ReadsAny}
 use Rattle.paql.specs.Scripts.{IsScript}
-use Rattle.paql.specs.Translation.{IsSmall, IsAnswered}
+use Rattle.paql.specs.Translation.{IsSmall}
 use Rattle.paql.specs.Numbers.{EndsNumber}
 use Rattle.paql.proofs.Decimals.{number_free}
 use Rattle.paql.proofs.Fronts.{IsFree, list_free}

@@ -1,4 +1,4 @@
-use Rattle.std.proofs.Common.{codes, refl, ◌∙◌}
+use Rattle.std.proofs.Common.{codes, refl}
 use Rattle.paql.proofs.Statements.{begins_query, query_front, query_number, query_such, query_list, query_end, query_read}
 use Rattle.paql.proofs.form.query_of.Goals as goal
 

@@ -1,6 +1,5 @@
 use Rattle.std.proofs.Common.{◌≡◌, ◌∙◌, ap, subst, map, replicate, length, List, ℤ, ℕ}
 use Rattle.lin_bound.specs.Problem.{IsLegal}
-use Rattle.paql_ast.specs.declared.Conjunct.{Conjunct}
 use Rattle.paql.specs.Translation.{row_of, side_of, row_bound, program_of}
 use Rattle.paql.proofs.Legal.{program_legal}
 use Rattle.paql.proofs.translate.program_of.Goals as goal
