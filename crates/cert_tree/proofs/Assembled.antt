@@ -17,7 +17,7 @@ use Rattle.cert_tree.specs.declared.records.Record.{Record}
 use Rattle.cert_tree.specs.declared.records.Piece.{Piece}
 use Rattle.cert_tree.specs.declared.records.Piece.TheVariants.{Done, Left}
 use Rattle.cert_tree.specs.Records.{lower, upper}
-use Rattle.cert_tree.specs.Trees.{IsWhole, Laid, pieces_of}
+use Rattle.cert_tree.specs.Trees.{IsWhole, Laid, pieces_of, IsAssembled}
 use Rattle.cert_tree.specs.Certificates.{Certify}
 use Rattle.cert_tree.specs.Partial.{PartlyCertify, is_done}
 use Rattle.cert_tree.specs.Laws.{IsRight, IsPlainlyRight, AssembledCertifies, AssembledPartly}
@@ -36,7 +36,7 @@ whole_laid (path ∷ paths) (Split var at mult ∷ nodes) [] laid = absurd laid
 whole_laid (path ∷ paths) (Open ∷ nodes) [] laid = absurd laid
 
 -- the box of a child is the half of its parent's
-cut_push : (box : Region) (path : List Branch) (branch : Branch) → cut box (path ++ branch ∷ []) ≡ half branch (cut box path)
+pub cut_push : (box : Region) (path : List Branch) (branch : Branch) → cut box (path ++ branch ∷ []) ≡ half branch (cut box path)
 cut_push box [] branch = refl
 cut_push box (first ∷ path) branch = cut_push (half first box) path branch
 
@@ -158,13 +158,22 @@ pieces_right : (p : ProblemData) (best : Option ℤ) (records : List Record) (le
 pieces_right p best records left right =
     All-append (PartPiece p best) (map Done records) (map Left left) (All-map (PartPiece p best) Done records right) (All-map (PartPiece p best) Left left (λ k d h. tt))
 
+-- of right records, whatever is left
+pub assembled_parts : (p : ProblemData) (best : Option ℤ) (records : List Record) (left : List (List Branch)) (nodes : List TreeNode) → IsAssembled records left nodes → All (λ (done : Record). IsPlainlyRight p best done.path done.act) records → PartlyCertify p best (whole_box p ∷ []) nodes
+assembled_parts p best records left nodes made right =
+    partly_laid p best ([] ∷ []) nodes made.order made.laid (recursion_from_All (PartPiece p best) made.order (All-permutation (PartPiece p best) (pieces_of records left) made.order made.all (pieces_right p best records left right)))
+
+-- a node for each record and each left path
+pub assembled_length : (records : List Record) (left : List (List Branch)) (nodes : List TreeNode) → IsAssembled records left nodes → length nodes ≡ length records + length left
+assembled_length records left nodes made =
+    omega (arith, length_laid ([] ∷ []) nodes made.order made.laid, length_permutation (pieces_of records left) made.order made.all, length-append (map Done records) (map Left left), length-map records Done, length-map left Left)
+
 pub assembled_partly : AssembledPartly
 assembled_partly p best records left nodes made right more =
     let among = pieces_of records left in
     let count : sum_by by_done nodes ≡ length records = omega (arith, count_laid ([] ∷ []) nodes made.order made.laid, sum_by-IsPermutation by_record among made.order made.all, sum_by-append by_record (map Done records) (map Left left), count_records records, count_left left) in
-    let each : length nodes ≡ length records + length left = omega (arith, length_laid ([] ∷ []) nodes made.order made.laid, length_permutation among made.order made.all, length-append (map Done records) (map Left left), length-map records Done, length-map left Left) in
     record {
       each = count;
-      more = open_found nodes (omega (arith, count, each, some_left left more));
-      parts = partly_laid p best ([] ∷ []) nodes made.order made.laid (recursion_from_All (PartPiece p best) made.order (All-permutation (PartPiece p best) among made.order made.all (pieces_right p best records left right)));
+      more = open_found nodes (omega (arith, count, assembled_length records left nodes made, some_left left more));
+      parts = assembled_parts p best records left nodes made right;
     }

@@ -60,7 +60,7 @@ greatest_rises p most (place ∷ places) (Open ∷ nodes) =
     omega (arith, ints, clamps, greatest_rises p (int_max most (top p place.0 place.1)) places nodes)
 
 -- the boxes without their parents' multipliers
-abbrev boxes_of : List (Region × Option Mult) → List Region
+abbrev pub boxes_of : List (Region × Option Mult) → List Region
 boxes_of [] = []
 boxes_of (place ∷ places) = place.0 ∷ boxes_of places
 

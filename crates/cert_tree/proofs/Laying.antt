@@ -3,8 +3,7 @@ use Rattle.std.proofs.Common.{◌≡◌, ◌⊎◌, ℕ, zero, suc, ◌+◌, ◌
 use Rattle.std.specs.Prelude.{slice_get, slice_index_or}
 use Rattle.std.specs.List.{HoldsAt}
 use Rattle.std.proofs.lemmas.Bool.{cases_eq, true≢false, false≢true}
-use Rattle.std.proofs.lemmas.List.{append-nil, append_assoc, reverse-append, reverse-reverse, length_push, take_more_same, take_all}
-use Rattle.std.proofs.lemmas.Option.{slice_get_within, get_or_from_slice_get}
+use Rattle.std.proofs.lemmas.List.{append-nil, append_assoc, reverse-append, reverse-reverse, length_push}
 use Rattle.std.proofs.lemmas.List.Sums.{sum_by-cons, sum_by-append, sum_by-remove}
 use Rattle.std.proofs.lemmas.List.Sorted.{IsPermutation-refl, IsPermutation-trans, IsPermutation-cons, IsPermutation-remove, sum_by-IsPermutation}
 use Rattle.lin_bound.specs.declared.path.Branch.{Branch}
@@ -205,15 +204,6 @@ pub balanced_fits : (records : List Record) (left : List (List Branch)) (pieces 
 balanced_fits records left pieces balanced all weigh =
     let among = pieces_of records left in
     omega (arith, sum_by-IsPermutation (weight_at weigh) among pieces all, sum_by-IsPermutation (weight_below weigh) among pieces all, sum_by-append (weight_at weigh) (map Done records) (map Left left), sum_by-append (weight_below weigh) (map Done records) (map Left left), records_weigh weigh records, left_weighs weigh left, children_weigh weigh records, left_has_none weigh left, sum_by-IsPermutation weigh (map path_in records ++ left) (([] ∷ []) ++ flat_map children records) balanced, sum_by-append weigh (map path_in records) left, sum_by-append weigh ([] ∷ []) (flat_map children records))
-
--- the fronts of two paths are one, with the next branch too
-pub front_more : (one other : List Branch) (place : ℕ) (first second : Branch) → slice_get one place ≡ Some first → slice_get other place ≡ Some second → first ≡ second → take place one ≡ take place other → take (place + 1) one ≡ take (place + 1) other
-front_more one other place first second left right same fronts =
-    take_more_same one other place first (slice_get_within one place first left) (slice_get_within other place second right) fronts (get_or_from_slice_get one place first first left ∙ (same ∙ sym (get_or_from_slice_get other place second first right)))
-
-pub same_from_fronts : (one other : List Branch) (place : ℕ) → length one ≡ length other → length one ≤ place → take place one ≡ take place other → one ≡ other
-same_from_fronts one other place lengths all fronts =
-    sym (take_all place one all) ∙ (fronts ∙ take_all place other (omega (arith, lengths, all)))
 
 -- the same of what the turn's calls say
 pub path_found : (start : List Piece) (old pending : List (List Branch)) (path : List Branch) (nodes : List TreeNode) (pieces seen : List Piece) → old ≡ pending ++ path ∷ [] → seen ≡ pieces → IsLaying start old nodes pieces → HasPath seen path

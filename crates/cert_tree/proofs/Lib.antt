@@ -3,3 +3,10 @@ pub mod Bounds
 pub mod Assembled
 pub mod Laying
 pub mod Balance
+pub mod Tops
+pub mod Walking
+mod Worked
+pub mod Values
+pub mod Multipliers
+pub mod Paths
+pub mod Counts

@@ -10,6 +10,7 @@ use Rattle.cert_tree.specs.declared.records.Act.TheVariants.{Closed, Split}
 use Rattle.cert_tree.specs.declared.records.Record.{Record}
 use Rattle.cert_tree.specs.Records.{lower}
 use Rattle.cert_tree.specs.Trees.{IsAssembled}
+use Rattle.cert_tree.specs.Multipliers.{ActIsLegal, HasLegalMult}
 use Rattle.cert_tree.specs.Certificates.{IsCertificate}
 use Rattle.cert_tree.specs.Partial.{PlainlyOpen, IsPartialCertificate, most_left}
 
@@ -51,3 +52,8 @@ abbrev pub AssembledPartly : Type 0
 AssembledPartly = (p : ProblemData) (best : Option ℤ) (records : List Record) (left : List (List Branch)) (nodes : List TreeNode)
     → IsAssembled records left nodes → All (λ (done : Record). IsPlainlyRight p best done.path done.act) records → left ≢ []
     → IsPartialCertificate (length records) p nodes best
+
+-- Where the multipliers of each record are legal, so are those of each node of the tree assembled of them.
+abbrev pub AssembledLegal : Type 0
+AssembledLegal = (p : ProblemData) (records : List Record) (left : List (List Branch)) (nodes : List TreeNode)
+    → IsAssembled records left nodes → All (λ (done : Record). ActIsLegal p done.act) records → All (HasLegalMult p) nodes

@@ -3,4 +3,8 @@ pub mod Trees
 pub mod Pieces
 pub mod Certificates
 pub mod Partial
+pub mod Places
+pub mod Values
+pub mod Multipliers
+pub mod Counts
 pub mod Laws

@@ -1,5 +1,5 @@
 //! How what a search recorded becomes one whole tree.
-ghost use Rattle.std.specs.Prelude.{◌≡◌, ◌++◌, ◌∷◌, [], ◌<◌, ◌↔◌, IsTrue, IfOk, length, reverse};
+ghost use Rattle.std.specs.Prelude.{◌≡◌, ◌++◌, ◌∷◌, [], ◌<◌, IfOk, length, reverse};
 ghost use Rattle.std.specs.List.{HoldsAt};
 ghost use Rattle.cert_tree.specs.Records.{IsBalanced};
 ghost use Rattle.cert_tree.specs.Trees.{pieces_of, IsLaid, IsAssembled};
@@ -11,21 +11,6 @@ use lin_bound::{Branch, Path};
 use sqlite_items::Items;
 use std::alloc::{AllocError, Global};
 use std::cmp::Ordering;
-
-/// Whether two paths are the same.
-fn is_same(one: &Path, other: &Path) -> bool
-    ensures { IsTrue result ↔ (one.now ≡ other.now) }
-{
-    if one.len() != other.len() {
-        return false;
-    }
-    for place in 0..one.len() {
-        if one.branch(place) != other.branch(place) {
-            return false;
-        }
-    }
-    true
-}
 
 /// Where the first path stands in preorder against the second: a path before those below it, and lower halves before
 /// upper ones.
@@ -59,7 +44,7 @@ fn place_of(pieces: &[Piece], path: &Path) -> usize
     let mut place = pieces.len();
     while place > 0 {
         place -= 1;
-        if is_same(path_of(&pieces[place]), path) {
+        if path_of(&pieces[place]).is_same(path) {
             return place;
         }
     }

@@ -1,5 +1,6 @@
 //! What trees show, each proved for every problem.
-ghost use Rattle.cert_tree.specs.Laws.{CertifiedIsBest, CertifiedIsEmpty, PartialBounds, AssembledCertifies, AssembledPartly};
+ghost use Rattle.cert_tree.specs.Counts.{NodesAreFew};
+ghost use Rattle.cert_tree.specs.Laws.{CertifiedIsBest, CertifiedIsEmpty, PartialBounds, AssembledCertifies, AssembledPartly, AssembledLegal};
 
 use lin_bound::{closed_holds_none, halves_cover, weak_duality};
 
@@ -37,3 +38,15 @@ pub fn assembled_certifies()
 pub fn assembled_partly()
     ensures { AssembledPartly }
 {}
+
+/// Where the multipliers of each record are legal, so are those of each node of the tree made of them.
+pub fn assembled_legal()
+    ensures { AssembledLegal }
+{}
+
+/// A tree whose leaves are all boxes of the problem has fewer than twice as many nodes as there are points.
+pub fn nodes_are_few()
+    ensures { NodesAreFew }
+{
+    halves_cover();
+}

@@ -5,13 +5,16 @@
 mod assembly;
 mod laws;
 mod nodes;
+mod possible;
 mod records;
 
 pub use assembly::assemble;
 pub use laws::{
-    assembled_certifies, assembled_partly, certified_is_best, certified_is_empty, partial_bounds,
+    assembled_certifies, assembled_legal, assembled_partly, certified_is_best, certified_is_empty,
+    nodes_are_few, partial_bounds,
 };
 pub use nodes::{Tree, TreeNode};
+pub use possible::most_left;
 pub use records::{Act, Record};
 
 #[cfg(test)]

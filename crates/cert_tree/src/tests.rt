@@ -1,9 +1,10 @@
 //! Trees that are made of what a search did, in the order in which it did it, against trees written by hand.
-ghost use Rattle.std.specs.Prelude.{◌<◌, IfOk, vec_len};
+ghost use Rattle.std.specs.Prelude.{◌≡◌, ◌∷◌, [], ◌<◌, IfOk, negsuc, vec_len};
 ghost use Rattle.cert_tree.specs.Records.{IsBalanced};
+ghost use Rattle.cert_tree.specs.declared.nodes.TreeNode.TheVariants.{Leaf, Split, Open};
 
 use super::*;
-use lin_bound::{Branch, Mult, Path};
+use lin_bound::{Branch, Mult, Path, Problem};
 use sqlite_items::Items;
 use std::alloc::{AllocError, Global};
 use std::test::*;
@@ -182,5 +183,87 @@ fn trees(rt: HostRuntime) -> Result<(), Fail> {
         let made = text(rt.alloc(), &tree)?;
         assert_eq!(rt; made.as_str(), want);
     }
+    Ok(())
+}
+
+/// The greatest of -3x - 4y with 2x + 3y >= 7, x at most 3 and y at most 2, which is -10.
+fn least_cost(alloc: Global) -> Result<Problem, AllocError>
+    ensures { IfOk result (λ problem. problem ≡ record { cost = negsuc 2 ∷ negsuc 3 ∷ []; rows = (negsuc 1 ∷ negsuc 2 ∷ []) ∷ []; rhs = negsuc 6 ∷ []; upper = 3 ∷ 2 ∷ [] }) }
+{
+    let mut rows = Items::new(alloc);
+    rows.push(Items::from_slice(alloc, &[-2, -3])?)?;
+    Ok(Problem::new(
+        Items::from_slice(alloc, &[-3, -4])?,
+        rows,
+        Items::from_slice(alloc, &[-7])?,
+        Items::from_slice(alloc, &[3, 2])?,
+    ))
+}
+
+/// The multipliers of the cost and of one row.
+fn mult_of(alloc: Global, d: u32, lambda: u32) -> Result<Mult, AllocError>
+    ensures { IfOk result (λ mult. mult ≡ record { d = d; lambda = lambda ∷ [] }) }
+{
+    Ok(Mult {
+        d,
+        lambda: Items::from_slice(alloc, &[lambda])?,
+    })
+}
+
+/// x at most 1 or more, and of the first half y at most 1 or more: all three are open.
+fn open_tree(alloc: Global) -> Result<Tree, AllocError>
+    ensures { IfOk result (λ tree. tree ≡ Split 0 1 (record { d = 2; lambda = 3 ∷ [] }) ∷ Split 1 1 (record { d = 1; lambda = 1 ∷ [] }) ∷ Open ∷ Open ∷ Open ∷ []) }
+{
+    let mut nodes = Items::new(alloc);
+    nodes.push(TreeNode::Split {
+        var: 0,
+        at: 1,
+        mult: mult_of(alloc, 2, 3)?,
+    })?;
+    nodes.push(TreeNode::Split {
+        var: 1,
+        at: 1,
+        mult: mult_of(alloc, 1, 1)?,
+    })?;
+    nodes.push(TreeNode::Open)?;
+    nodes.push(TreeNode::Open)?;
+    nodes.push(TreeNode::Open)?;
+    Ok(Tree::new(nodes))
+}
+
+/// x at most 1, which is closed for -10, or more, which is open.
+fn half_closed_tree(alloc: Global) -> Result<Tree, AllocError>
+    ensures { IfOk result (λ tree. tree ≡ Split 0 1 (record { d = 2; lambda = 3 ∷ [] }) ∷ Leaf (record { d = 2; lambda = 3 ∷ [] }) ∷ Open ∷ []) }
+{
+    let mut nodes = Items::new(alloc);
+    nodes.push(TreeNode::Split {
+        var: 0,
+        at: 1,
+        mult: mult_of(alloc, 2, 3)?,
+    })?;
+    nodes.push(TreeNode::Leaf(mult_of(alloc, 2, 3)?))?;
+    nodes.push(TreeNode::Open)?;
+    Ok(Tree::new(nodes))
+}
+
+fn left_of_open(alloc: Global, best: Option<i64>) -> Result<i64, AllocError> {
+    let problem = least_cost(alloc)?;
+    let tree = open_tree(alloc)?;
+    most_left(alloc, &problem, &tree, best)
+}
+
+fn left_of_half_closed(alloc: Global) -> Result<i64, AllocError> {
+    let problem = least_cost(alloc)?;
+    let tree = half_closed_tree(alloc)?;
+    most_left(alloc, &problem, &tree, Some(-10))
+}
+
+#[test]
+fn what_is_left(rt: HostRuntime) -> Result<(), Fail> {
+    // The open leaves come to -7, -9 and -10, by 3x + 4y >= 7, by the same at y >= 2, and by 6x + 8y >= 21 - y >= 19.
+    for (best, want) in [(None, -7), (Some(-20), -7), (Some(-5), -5)] {
+        assert_eq!(rt; left_of_open(rt.alloc(), best)?, want);
+    }
+    assert_eq!(rt; left_of_half_closed(rt.alloc())?, -10);
     Ok(())
 }

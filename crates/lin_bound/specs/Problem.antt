@@ -34,6 +34,15 @@ cost_at p x = value_at p.cost x (variables p)
 abbrev pub row_at : ProblemData → ℕ → List ℕ → ℤ
 row_at p j x = value_at (row_of p j) x (variables p)
 
+-- a point with a count a variable, none above its upper
+pub record IsWithin (p : ProblemData) (x : List ℕ) : Type 0 where
+  pub each : length x ≡ variables p
+  pub within : (i : ℕ) → i < variables p → nat_at x i ≤ nat_at p.upper i
+
+-- a point that keeps each row
+abbrev pub KeepsRows : ProblemData → List ℕ → Type 0
+KeepsRows p x = (j : ℕ) → j < row_count p → row_at p j x ≤ℤ int_at p.rhs j
+
 -- a point within the uppers that keeps each row
 pub record IsFeasible (p : ProblemData) (x : List ℕ) : Type 0 where
   pub each : length x ≡ variables p

@@ -5,6 +5,7 @@ mod bounds;
 mod laws;
 mod mult;
 mod path;
+mod points;
 mod problem;
 mod region;
 
@@ -14,7 +15,8 @@ pub use laws::{
 };
 pub use mult::{Mult, plain_mult};
 pub use path::{Branch, Path};
-pub use problem::{Point, Problem};
+pub use points::Point;
+pub use problem::Problem;
 pub use region::{Region, box_of};
 
 #[cfg(test)]

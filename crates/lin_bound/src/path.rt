@@ -1,5 +1,5 @@
 //! The branches that lead from the whole box of a problem to a part of it.
-ghost use Rattle.std.specs.Prelude.{◌≡◌, ◌<◌, ◌++◌, ◌∷◌, [], length, IfOk, slice_get, Some};
+ghost use Rattle.std.specs.Prelude.{◌≡◌, ◌<◌, ◌++◌, ◌∷◌, [], ◌↔◌, IsTrue, length, IfOk, slice_get, Some};
 
 use sqlite_items::Items;
 use std::alloc::{AllocError, Global};
@@ -69,5 +69,20 @@ impl Path {
         ensures { slice_get self.now place ≡ Some result }
     {
         self.branches.as_slice()[place]
+    }
+
+    /// Whether the two paths have the same branches.
+    pub fn is_same(&self, other: &Path) -> bool
+        ensures { IsTrue result ↔ (self.now ≡ other.now) }
+    {
+        if self.len() != other.len() {
+            return false;
+        }
+        for place in 0..self.len() {
+            if self.branch(place) != other.branch(place) {
+                return false;
+            }
+        }
+        true
     }
 }

@@ -1,6 +1,6 @@
-//! A bounded integer program, and the points that are judged by it.
+//! A bounded integer program.
 ghost use Rattle.std.specs.Prelude.{◌≡◌, ◌<◌};
-ghost use Rattle.lin_bound.specs.Problem.{variables, row_count, coefficient_of, IsLegal};
+ghost use Rattle.lin_bound.specs.Problem.{variables, row_count, row_of, coefficient_of, IsLegal};
 ghost use Rattle.lin_bound.specs.Sums.{int_at, nat_at};
 
 use sqlite_items::Items;
@@ -69,6 +69,23 @@ impl Problem {
         self.cost.as_slice()[variable]
     }
 
+    /// What one unit of each variable adds to the cost.
+    pub(crate) fn costs(&self) -> &[i64]
+        ensures value { result.now ≡ self.now.cost }
+        ensures legal { IsLegal self.now }
+    {
+        self.cost.as_slice()
+    }
+
+    /// What one unit of each variable adds to a row.
+    pub(crate) fn row(&self, row: usize) -> &[i64]
+        requires { row < row_count self.now }
+        ensures value { result.now ≡ row_of self.now row }
+        ensures legal { IsLegal self.now }
+    {
+        self.rows.as_slice()[row].as_slice()
+    }
+
     /// What one unit of a variable adds to a row.
     pub fn coefficient(&self, row: usize, variable: usize) -> i64
         requires row { row < row_count self.now }
@@ -103,35 +120,5 @@ impl Problem {
         ensures legal { IsLegal self.now }
     {
         self.upper.as_slice()
-    }
-}
-
-/// How much of each variable a solution takes.
-#[derive(Debug, Drop)]
-pub struct Point {
-    counts: Items<u64>,
-}
-
-impl Model for Point {
-    ghost use Rattle.std.specs.Prelude.{List, ℕ};
-
-    ghost Value = { List ℕ };
-
-    ghost view = { λ point. point.counts };
-}
-
-impl Point {
-    /// The point with these counts, one a variable.
-    pub fn new(counts: Items<u64>) -> Point
-        ensures { result ≡ counts }
-    {
-        Point { counts }
-    }
-
-    /// The counts, one a variable.
-    pub fn counts(&self) -> &[u64]
-        ensures { result.now ≡ self.now }
-    {
-        self.counts.as_slice()
     }
 }

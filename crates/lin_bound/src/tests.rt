@@ -209,3 +209,35 @@ fn what_a_path_tells(rt: HostRuntime) -> Result<(), Fail> {
     halves_cover();
     Ok(())
 }
+
+/// The rows x + 2y <= 5 and x >= 1, with x at most 3 and y at most 2.
+fn some_points(alloc: Global) -> Result<Problem, AllocError> {
+    two_rows(alloc, &[3, -4], &[1, 2], &[-1, 0], &[5, -1], &[3, 2])
+}
+
+/// The cost of a feasible point.
+fn judged(alloc: Global, problem: &Problem, counts: &[u64]) -> Result<Option<i64>, AllocError> {
+    let point = Point::new(Items::from_slice(alloc, counts)?);
+    if !problem.is_feasible(&point) {
+        return Ok(None);
+    }
+    Ok(Some(problem.cost_of(&point)))
+}
+
+#[test]
+fn points_judged(rt: HostRuntime) -> Result<(), Fail> {
+    let problem = some_points(rt.alloc())?;
+    let cases: [(&[u64], Option<i64>); 7] = [
+        (&[3, 1], Some(5)),
+        (&[1, 2], Some(-5)),
+        (&[3, 2], None),
+        (&[0, 2], None),
+        (&[4, 0], None),
+        (&[1], None),
+        (&[1, 1, 0], None),
+    ];
+    for (counts, want) in cases {
+        assert_eq!(rt; judged(rt.alloc(), &problem, counts)?, want);
+    }
+    Ok(())
+}

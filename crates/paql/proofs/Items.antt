@@ -1,5 +1,5 @@
 -- The items of a script, each of which a text can begin with in one way only.
-use Rattle.std.proofs.Common.{◌≡◌, ℕ, List, [], ◌∷◌, ◌++◌, codes, refl, sym, ◌∙◌, append_assoc, inl, arith}
+use Rattle.std.proofs.Common.{◌≡◌, ℕ, List, [], ◌∷◌, ◌++◌, codes, refl, sym, ◌∙◌, append_assoc, inl, inr, arith}
 use Rattle.std.proofs.lemmas.List.{append_cancel_left}
 use Rattle.std.specs.Fmt.{signed_decimal}
 use Rattle.paql_ast.specs.declared.Measure.{Measure}
@@ -17,6 +17,9 @@ bracket_ends = record { no_minus = λ e. omega (arith, e); no_digit = inl (omega
 
 pub space_ends : EndsNumber 32
 space_ends = record { no_minus = λ e. omega (arith, e); no_digit = inl (omega arith) }
+
+pub semicolon_ends : EndsNumber 59
+semicolon_ends = record { no_minus = λ e. omega (arith, e); no_digit = inr (omega arith) }
 
 pub value_free : IsFree InRange value_text
 value_free a b r s p q e =
@@ -55,5 +58,5 @@ conjunct_free a b r s p q e =
 pub comma_apart : AreApart (codes ",") (codes ";")
 comma_apart r s e = let heads : ◌≡◌ {A = ℕ} 44 59 = cc in omega (arith, heads)
 
-pub and_apart : AreApart (codes "AND ") (codes "MAXIMIZE SUM(P.v);")
+pub and_apart : AreApart (codes "AND ") (codes "MAXIMIZE SUM(P.v)")
 and_apart r s e = let heads : ◌≡◌ {A = ℕ} 65 77 = cc in omega (arith, heads)

@@ -5,7 +5,7 @@ pub mod Items
 pub mod Legal
 pub mod Pairs
 pub mod Points
-pub mod Powers
+pub mod Sizes
 pub mod Solved
 pub mod Statements
 pub mod Translated

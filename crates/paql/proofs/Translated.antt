@@ -1,5 +1,7 @@
 -- The program of a script means its query.
-use Rattle.std.proofs.Common.{◌≡◌, ℕ, zero, suc, ◌+◌, ◌<◌, ◌≤◌, List, [], ◌∷◌, length, map, get_or, ℤ, ◌≤ℤ◌, refl, sym, ap, ◌∙◌, arith}
+use Rattle.std.proofs.Common.{◌≡◌, ℕ, zero, suc, ◌+◌, ◌<◌, ◌≤◌, min, List, [], ◌∷◌, length, map, get_or, ℤ, pos, ◌≤ℤ◌, refl, sym, ap, ◌∙◌, arith}
+use Rattle.std.proofs.Math.Nat.{le_refl, min-le_left, le-min}
+use lib.IntN.{negsuc}
 use Rattle.std.proofs.lemmas.Int.{ints}
 use Rattle.std.proofs.lemmas.List.{get_or-replicate, length-map}
 use Rattle.std.specs.List.{AllByRecursion}
@@ -9,13 +11,13 @@ use Rattle.package_query.specs.Meaning.{Keeps, Meets, total, worth}
 use Rattle.package_query.specs.Query.{Holds}
 use Rattle.paql_ast.specs.Asks.{per_copy, compared, condition_of, query_of, rows_of, rows_from}
 use Rattle.paql_ast.specs.declared.Measure.{Measure}
-use Rattle.paql_ast.specs.declared.Measure.TheVariants.{Sum}
+use Rattle.paql_ast.specs.declared.Measure.TheVariants.{Count, Sum}
 use Rattle.paql_ast.specs.declared.Side.{Side}
 use Rattle.paql_ast.specs.declared.Side.TheVariants.{AtMost, AtLeast}
 use Rattle.paql_ast.specs.declared.Conjunct.{Conjunct}
 use Rattle.paql_ast.specs.declared.Script.{Script}
 use Rattle.paql.proofs.Points.{AreCounts, dot, dot-neg, value-dot, total-package, map-same, package_rises, rises_later, rises_from_zero, counts_allowed, counts_of, counts_one}
-use Rattle.paql.specs.Translation.{signed, coefficient, row_of, side_of, program_of, package_from, IsPoint, TranslationKeepsMeaning}
+use Rattle.paql.specs.Translation.{signed, coefficient, row_of, side_of, copies, bounded, bounded_by, row_bound, program_of, package_from, IsPoint, TranslationKeepsMeaning}
 
 -- the total of a measure over a package of counts
 measure_total : Measure → List ℤ → List ℕ → ℤ
@@ -72,6 +74,63 @@ count_at most [] all i l = absurd (omega (arith, l))
 count_at most (n ∷ x) all zero l = all.0
 count_at most (n ∷ x) all (suc i) l = count_at most x all.1 i (omega (arith, l))
 
+-- the row bound is at most what REPEAT allows
+bounded_less : (measure : Measure) (side : Side) (limit : ℤ) (most : ℕ) → bounded measure side limit most ≤ most
+bounded_less Count AtMost limit most = min-le_left most (copies limit)
+bounded_less Count AtLeast limit most = le_refl most
+bounded_less Sum side limit most = le_refl most
+
+pub bound_less : (most : ℕ) (conjuncts : List Conjunct) → bounded_by most conjuncts ≤ most
+bound_less most [] = le_refl most
+bound_less most (conjunct ∷ conjuncts) =
+    let first = bounded_less conjunct.measure conjunct.side conjunct.limit most in
+    let rest = bound_less (bounded conjunct.measure conjunct.side conjunct.limit most) conjuncts in
+    omega (arith, first, rest)
+
+-- how many copies there are, of which no row has more
+all_copies : List ℕ → ℕ
+all_copies [] = 0
+all_copies (n ∷ x) = n + all_copies x
+
+copies_are : (values : List ℤ) (x : List ℕ) → length x ≡ length values → measure_total Count values x ≡ pos (all_copies x)
+unfolding measure_total all_copies
+copies_are [] [] e = refl
+copies_are [] (n ∷ x) e = absurd (omega (arith, e))
+copies_are (v ∷ values) [] e = absurd (omega (arith, e))
+copies_are (v ∷ values) (n ∷ x) e =
+    let rest : dot (λ (v : ℤ). per_copy Count (v ∷ [])) values x ≡ pos (all_copies x) = copies_are values x (omega (arith, e)) in
+    omega (arith, ints, rest)
+
+each_less : (most : ℕ) (x : List ℕ) → all_copies x ≤ most → AllByRecursion (λ (n : ℕ). n ≤ most) x
+unfolding all_copies
+each_less most [] h = tt
+each_less most (n ∷ x) h = (omega (arith, h), each_less most x (omega (arith, h)))
+
+copies_limit : (limit : ℤ) (n : ℕ) → pos n ≤ℤ limit → n ≤ copies limit
+copies_limit (pos m) n h = omega (arith, ints, h)
+copies_limit (negsuc m) n h = absurd (omega (arith, ints, h))
+
+each_min : (a b : ℕ) (x : List ℕ) → AllByRecursion (λ (n : ℕ). n ≤ a) x → AllByRecursion (λ (n : ℕ). n ≤ b) x → AllByRecursion (λ (n : ℕ). n ≤ min a b) x
+each_min a b [] p q = tt
+each_min a b (n ∷ x) p q = (le-min p.0 q.0, each_min a b x p.1 q.1)
+
+each_bounded : (measure : Measure) (side : Side) (limit : ℤ) (most : ℕ) (values : List ℤ) (x : List ℕ) → length x ≡ length values
+    → Holds (compared side limit) (measure_total measure values x) → AllByRecursion (λ (n : ℕ). n ≤ most) x
+    → AllByRecursion (λ (n : ℕ). n ≤ bounded measure side limit most) x
+each_bounded Count AtMost limit most values x e holds all =
+    each_min most (copies limit) x all (each_less (copies limit) x (copies_limit limit (all_copies x) (rw (copies_are values x e) at holds)))
+each_bounded Count AtLeast limit most values x e holds all = all
+each_bounded Sum side limit most values x e holds all = all
+
+-- in a package that meets the conditions no row occurs more often than the row bound
+each_within : (most : ℕ) (conjuncts : List Conjunct) (values : List ℤ) (x : List ℕ) → length x ≡ length values
+    → AllByRecursion (Keeps (rows_from 1 values) (package_from 1 x)) (map condition_of conjuncts)
+    → AllByRecursion (λ (n : ℕ). n ≤ most) x → AllByRecursion (λ (n : ℕ). n ≤ bounded_by most conjuncts) x
+each_within most [] values x e keeps all = all
+each_within most (conjunct ∷ conjuncts) values x e keeps all =
+    each_within (bounded conjunct.measure conjunct.side conjunct.limit most) conjuncts values x e keeps.1
+    (each_bounded conjunct.measure conjunct.side conjunct.limit most values x e (rw (← total-condition conjunct values x e) keeps.0) all)
+
 module _ (script : Script) where
   values : List ℤ
   values = script.insert.values
@@ -81,12 +140,15 @@ module _ (script : Script) where
     each = is.each;
     within = λ (i : ℕ) (l : i < length x).
         let inside : i < length script.insert.values = omega (arith, l, is.each) in
-        let most = get_or-replicate (length script.insert.values) i (script.query.repeat + 1) 0 inside in
+        let most = get_or-replicate (length script.insert.values) i (row_bound script.query) 0 inside in
         omega (arith, is.within i inside, most);
   }
 
   counts : (x : List ℕ) → IsPoint script x → AreCounts (script.query.repeat + 1) script.insert.values x
-  counts x is = record { each = is.each; within = each_count (script.query.repeat + 1) x is.within }
+  counts x is = record {
+    each = is.each;
+    within = each_count (script.query.repeat + 1) x (λ (i : ℕ) (l : i < length x). omega (arith, is.within i l, bound_less (script.query.repeat + 1) script.query.conjuncts));
+  }
 
   meets : (x : List ℕ) → IsFeasible (program_of script) x → Meets (query_of script.query) (rows_of script.insert) (package_from 1 x)
   meets x is =
@@ -101,7 +163,7 @@ module _ (script : Script) where
   feasible x point meets = record {
     each = point.each;
     within = λ (i : ℕ) (l : i < length script.insert.values).
-        let most = get_or-replicate (length script.insert.values) i (script.query.repeat + 1) 0 l in
+        let most = get_or-replicate (length script.insert.values) i (row_bound script.query) 0 l in
         omega (arith, point.within i (omega (arith, l, point.each)), most);
     keeps = λ (j : ℕ) (l : j < length (map (row_of script.insert.values) script.query.conjuncts)).
         keeps_rows script.query.conjuncts script.insert.values x point.each meets.conjuncts j (rw length-map at l);
@@ -116,7 +178,9 @@ module _ (script : Script) where
   covers : (pairs : List (ℕ × ℕ)) → Meets (query_of script.query) (rows_of script.insert) pairs → (x : List ℕ) × IsPoint script x × (package_from 1 x ≡ pairs)
   covers pairs meets =
       let has = counts_of (query_of script.query) script.query.repeat 1 script.insert.values pairs refl (rises_later (query_of script.query) script.insert.values pairs meets.rises meets.each) meets.each in
-      (has.x, record { each = has.are.each; within = count_at (script.query.repeat + 1) has.x has.are.within }, has.same)
+      let keeps : AllByRecursion (Keeps (rows_of script.insert) (package_from 1 has.x)) (map condition_of script.query.conjuncts) = rw has.same meets.conjuncts in
+      let within = each_within (script.query.repeat + 1) script.query.conjuncts script.insert.values has.x has.are.each keeps has.are.within in
+      (has.x, record { each = has.are.each; within = count_at (row_bound script.query) has.x within }, has.same)
 
   one : (x y : List ℕ) → IsPoint script x → IsPoint script y → package_from 1 x ≡ package_from 1 y → x ≡ y
   one x y p q e = counts_one 1 x y (p.each ∙ sym q.each) e

@@ -1,5 +1,5 @@
--- The text of a script, and which texts are scripts.
-use Rattle.std.specs.Prelude.{◌≡◌, ◌⊎◌, ℕ, ◌+◌, ◌^◌, ◌≤◌, List, [], ◌∷◌, ◌++◌, length, ℤ, codes, decimal}
+-- The text of a script, and which numbers can stand in it.
+use Rattle.std.specs.Prelude.{◌≡◌, ◌⊎◌, ℕ, ◌^◌, ◌≤◌, List, [], ◌∷◌, ◌++◌, length, ℤ, codes, decimal}
 use Rattle.std.specs.Fmt.{signed_decimal}
 use Rattle.std.specs.Int.RustNames.{unsigned_abs}
 use Rattle.std.specs.List.{AllByRecursion}
@@ -39,12 +39,16 @@ conjunct_text conjunct = measure_text conjunct.measure ++ (side_text conjunct.si
 abbrev pub insert_text : List ℤ → List ℕ
 insert_text values = codes " INSERT INTO T VALUES " ++ (joined (codes ",") value_text values ++ codes ";")
 
-abbrev pub query_text : Query → List ℕ
-query_text query = codes " SELECT PACKAGE(T) AS P FROM T REPEAT " ++ (decimal query.repeat ++ (codes " SUCH THAT "
-    ++ (joined (codes "AND ") conjunct_text query.conjuncts ++ codes "MAXIMIZE SUM(P.v);")))
+-- what a query ends with: the clause of its budget, which may be left out where the budget is 2,000
+abbrev pub IsEnding : ℕ → List ℕ → Type 0
+IsEnding budget ending = ((budget ≡ 2000) × (ending ≡ codes ";")) ⊎ (ending ≡ codes " BUDGET " ++ (decimal budget ++ codes ";"))
 
-abbrev pub script_text : Script → List ℕ
-script_text script = codes "CREATE TABLE T (v INT);" ++ (insert_text script.insert.values ++ query_text script.query)
+abbrev pub query_text : Query → List ℕ → List ℕ
+query_text query ending = codes " SELECT PACKAGE(T) AS P FROM T REPEAT " ++ (decimal query.repeat ++ (codes " SUCH THAT "
+    ++ (joined (codes "AND ") conjunct_text query.conjuncts ++ (codes "MAXIMIZE SUM(P.v)" ++ ending))))
+
+abbrev pub script_text : Script → List ℕ → List ℕ
+script_text script ending = codes "CREATE TABLE T (v INT);" ++ (insert_text script.insert.values ++ query_text script.query ending)
 
 -- at most 10^12 in magnitude
 abbrev pub InRange : ℤ → Type 0
@@ -58,15 +62,19 @@ pub record AreItems {A : Type 0} (valid : A → Type 0) (items : List A) : Type 
 abbrev pub HasLimit : Conjunct → Type 0
 HasLimit conjunct = InRange conjunct.limit
 
+-- from 1 to 20,000
+pub record IsBudget (budget : ℕ) : Type 0 where
+  pub some : 1 ≤ budget
+  pub most : budget ≤ 20000
+
 -- a query's numbers are in range
 pub record IsAsked (query : Query) : Type 0 where
   pub repeat : query.repeat ≤ 10 ^ 12
   pub conjuncts : AreItems HasLimit query.conjuncts
+  pub budget : IsBudget query.budget
 
--- the script is one that is answered, and this is its text, with a line feed behind it or without
-pub record IsScript (text : List ℕ) (script : Script) : Type 0 where
-  pub written : (text ≡ script_text script) ⊎ (text ≡ script_text script ++ (10 ∷ []))
-  pub values : AreItems InRange script.insert.values
-  pub query : IsAsked script.query
-  pub few : length script.query.conjuncts ≤ 31
-  pub small : (script.query.repeat + 2) ^ length script.insert.values ≤ 1000
+-- the text writes the query, by one ending or the other
+pub record WritesQuery (query : Query) (text : List ℕ) : Type 0 where
+  pub ending : List ℕ
+  pub ends : IsEnding query.budget ending
+  pub whole : text ≡ query_text query ending

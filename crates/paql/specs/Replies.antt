@@ -22,5 +22,16 @@ optimal_line objective pairs = codes "{\"objective\":\"" ++ (signed_decimal obje
 abbrev pub infeasible_line : List ℕ
 infeasible_line = codes "{\"status\":\"infeasible\",\"version\":2}\n"
 
+-- a bound on what a package can be worth, and how many nodes were done
+abbrev pub bounded_front : ℤ → ℕ → List ℕ → List ℕ
+bounded_front bound nodes behind = codes "{\"bound\":\"" ++ (signed_decimal bound ++ (codes "\",\"nodes\":" ++ (decimal nodes ++ behind)))
+
+abbrev pub undecided_line : ℤ → ℕ → List ℕ
+undecided_line bound nodes = bounded_front bound nodes (codes ",\"status\":\"undecided\",\"version\":2}\n")
+
+abbrev pub undecided_best_line : ℤ → ℕ → ℤ → List (ℕ × ℕ) → List ℕ
+undecided_best_line bound nodes objective pairs = bounded_front bound nodes (codes ",\"objective\":\"" ++ (signed_decimal objective
+    ++ (codes "\",\"package\":[" ++ (pairs_text pairs ++ codes "],\"status\":\"undecided\",\"version\":2}\n"))))
+
 abbrev pub notbuilt_line : List ℕ
 notbuilt_line = codes "{\"error\":\"notbuilt\",\"status\":\"refused\"}\n"

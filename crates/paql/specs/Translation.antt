@@ -1,13 +1,17 @@
 -- The bounded integer program of a script, and the package of one of its points.
-use Rattle.std.specs.Prelude.{◌≡◌, ℕ, zero, suc, ◌+◌, ◌^◌, ◌<◌, ◌≤◌, List, [], ◌∷◌, length, map, replicate, ℤ}
-use lib.IntN.{neg_ℤ}
-use Rattle.lin_bound.specs.Problem.{ProblemData, IsFeasible, cost_at}
+use Rattle.std.specs.Prelude.{◌≡◌, ℕ, zero, suc, ◌+◌, ◌^◌, ◌<◌, ◌≤◌, min, List, [], ◌∷◌, length, map, replicate, ℤ, pos}
+use Rattle.std.specs.List.{AllByRecursion}
+use lib.IntN.{neg_ℤ, negsuc}
+use Rattle.lin_bound.specs.Problem.{ProblemData, IsFeasible, cost_at, load}
 use Rattle.lin_bound.specs.Sums.{nat_at}
 use Rattle.package_query.specs.Meaning.{Meets, worth}
 use Rattle.paql_ast.specs.Asks.{per_copy, query_of, rows_of}
+use Rattle.paql_ast.specs.declared.Measure.{Measure}
+use Rattle.paql_ast.specs.declared.Measure.TheVariants.{Count, Sum}
 use Rattle.paql_ast.specs.declared.Side.{Side}
 use Rattle.paql_ast.specs.declared.Side.TheVariants.{AtMost, AtLeast}
 use Rattle.paql_ast.specs.declared.Conjunct.{Conjunct}
+use Rattle.paql_ast.specs.declared.Query.{Query}
 use Rattle.paql_ast.specs.declared.Script.{Script}
 use Rattle.paql.specs.Form.{AreItems, InRange, IsAsked}
 
@@ -26,13 +30,32 @@ row_of values conjunct = map (coefficient conjunct) values
 abbrev pub side_of : Conjunct → ℤ
 side_of conjunct = signed conjunct.side conjunct.limit
 
+-- a limit as a number of copies: a negative one allows none
+abbrev pub copies : ℤ → ℕ
+copies (pos n) = n
+copies (negsuc n) = 0
+
+-- COUNT(P.*) <= m lets no row occur more than m times, and no other condition bounds that
+abbrev pub bounded : Measure → Side → ℤ → ℕ → ℕ
+bounded Count AtMost limit most = min most (copies limit)
+bounded Count AtLeast limit most = most
+bounded Sum side limit most = most
+
+abbrev pub bounded_by : ℕ → List Conjunct → ℕ
+bounded_by most [] = most
+bounded_by most (conjunct ∷ conjuncts) = bounded_by (bounded conjunct.measure conjunct.side conjunct.limit most) conjuncts
+
+-- how often a row can occur in a package that meets the query
+abbrev pub row_bound : Query → ℕ
+row_bound query = bounded_by (query.repeat + 1) query.conjuncts
+
 -- a variable for each value, which says how often its row occurs, and a row for each condition
 abbrev pub program_of : Script → ProblemData
 program_of script = record {
   cost = script.insert.values;
   rows = map (row_of script.insert.values) script.query.conjuncts;
   rhs = map side_of script.query.conjuncts;
-  upper = replicate (length script.insert.values) (script.query.repeat + 1);
+  upper = replicate (length script.insert.values) (row_bound script.query);
 }
 
 -- the rows that a point takes, with ids from `id` on, each as often as its variable says
@@ -44,7 +67,7 @@ package_from id (suc n ∷ counts) = (id, suc n) ∷ package_from (suc id) count
 -- a point of the program, within its uppers
 pub record IsPoint (script : Script) (x : List ℕ) : Type 0 where
   pub each : length x ≡ length script.insert.values
-  pub within : (i : ℕ) → i < length x → nat_at x i ≤ script.query.repeat + 1
+  pub within : (i : ℕ) → i < length x → nat_at x i ≤ row_bound script.query
 
 -- The program means the query: a point is feasible exactly where its package meets the query, its cost is the
 -- package's worth, and each package that meets the query is the package of one point.
@@ -58,9 +81,20 @@ pub record IsTranslated (script : Script) : Type 0 where
 abbrev pub TranslationKeepsMeaning : Type 0
 TranslationKeepsMeaning = (script : Script) → IsTranslated script
 
--- what the form grants of a script: its numbers are in range, and there are few packages
+-- how great a sum over the values can be in size, where a copy of each value's row adds so much
+abbrev pub size_of : Script → List ℤ → ℕ
+size_of script adds = load (replicate (length script.insert.values) (row_bound script.query)) adds (length script.insert.values)
+
+-- at most 100,000 values and 1,000,000 copies of each row, and no sum over 2^60, neither the goal's nor a condition's
+pub record IsSmall (script : Script) : Type 0 where
+  pub values : length script.insert.values ≤ 100000
+  pub copies : row_bound script.query ≤ 1000000
+  pub goal : size_of script script.insert.values ≤ 2 ^ 60
+  pub conditions : AllByRecursion (λ (conjunct : Conjunct). size_of script (row_of script.insert.values conjunct) ≤ 2 ^ 60) script.query.conjuncts
+
+-- which scripts are answered: their numbers are in range, there are few conditions, and the sums are small
 pub record IsAnswered (script : Script) : Type 0 where
   pub values : AreItems InRange script.insert.values
   pub query : IsAsked script.query
   pub few : length script.query.conjuncts ≤ 31
-  pub small : (script.query.repeat + 2) ^ length script.insert.values ≤ 1000
+  pub small : IsSmall script

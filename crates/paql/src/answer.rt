@@ -1,15 +1,12 @@
 //! From the bytes of an input to the bytes that answer it.
-ghost use Rattle.std.specs.Prelude.{IfOk, string_bytes};
-ghost use Rattle.paql.specs.Answers.{Answers, AnswersQuery, HasLines};
+ghost use Rattle.std.specs.Prelude.{◌≡◌, IfOk, string_bytes};
+ghost use Rattle.paql.specs.Answers.{Answers, AnswersQuery, HasLines, left_line};
 ghost use Rattle.paql.specs.Translation.{IsAnswered};
 
 use crate::{form, replies, translate};
 use paql_ast::Script;
-use search_core::{SoloSolver, Solved};
+use search_core::{Found, SoloSolver, Solved, Solver};
 use std::alloc::{AllocError, Global};
-
-// Enough nodes for the most packages that a script of the form can have, which is 1,000.
-const BUDGET: u32 = 2_000;
 
 /// The answer to an input.
 pub fn answer(alloc: Global, bytes: &[u8]) -> Result<Vec<u8>, AllocError>
@@ -37,11 +34,31 @@ fn query_line(alloc: Global, script: &Script) -> Result<String, AllocError>
     ensures { IfOk result (λ line. AnswersQuery script.now (string_bytes line)) }
 {
     let problem = translate::program_of(alloc, script)?;
-    match SoloSolver.solve(alloc, &problem, BUDGET)? {
-        Solved::NoneExists => replies::infeasible(alloc),
-        Solved::Best { value, point } => {
+    match SoloSolver.solve(alloc, &problem, script.query.budget)? {
+        Solved::NoneExists { .. } => replies::infeasible(alloc),
+        Solved::Best { value, point, .. } => {
             let pairs = translate::package_of(alloc, point.counts())?;
             replies::optimal(alloc, value, pairs.as_slice())
+        }
+        Solved::Undecided { best, bound, .. } => open_line(alloc, script, best, bound),
+    }
+}
+
+// The line of a search that its budget cut off.
+fn open_line(
+    alloc: Global,
+    script: &Script,
+    best: Option<Found>,
+    bound: i64,
+) -> Result<String, AllocError>
+    ensures { IfOk result (λ line. string_bytes line ≡ left_line script.now.query.budget bound best) }
+{
+    let nodes = script.query.budget;
+    match best {
+        None => replies::undecided(alloc, bound, nodes),
+        Some(found) => {
+            let pairs = translate::package_of(alloc, found.point.counts())?;
+            replies::undecided_best(alloc, bound, nodes, found.value, pairs.as_slice())
         }
     }
 }

@@ -1,20 +1,24 @@
-//! The form of a script: one text for each script, read back.
-ghost use Rattle.std.specs.Prelude.{◌≡◌, ◌⊎◌, ◌↔◌, ◌+◌, ◌^◌, ◌≤◌, [], ◌∷◌, IsTrue, IfOk, MatchOption, length};
+//! The form of a script, read back from its texts.
+ghost use Rattle.std.specs.Prelude.{◌≡◌, ◌⊎◌, ◌↔◌, [], ◌∷◌, IsTrue, IfOk, MatchOption};
 ghost use Rattle.paql_ast.specs.declared.Script.{Script};
-ghost use Rattle.paql.specs.Form.{IsScript, AreItems, InRange, IsAsked, insert_text, query_text};
-ghost use Rattle.paql.specs.Reading.{Reads};
+ghost use Rattle.paql.specs.Form.{AreItems, InRange, IsAsked, WritesQuery, insert_text};
+ghost use Rattle.paql.specs.Scripts.{IsScript};
+ghost use Rattle.paql.specs.Reading.{Reads, ReadsAny};
 
+mod budgets;
 mod conjuncts;
 mod numbers;
 mod values;
 
+use crate::limits::is_small;
+use budgets::budget_of;
 use conjuncts::conjuncts_of;
 use numbers::{after, whole_before};
 use paql_ast::{CreateTable, Insert, Query, Script};
 use std::alloc::{AllocError, Global};
 use values::values_of;
 
-/// The script that this is the text of.
+/// The script that this is a text of.
 pub fn script_of(alloc: Global, text: &[u8]) -> Result<Option<Script>, AllocError>
     ensures { IfOk result (λ found. MatchOption found ((script : Script) → IsScript text.now script → ⊥) (IsScript text.now)) }
 {
@@ -33,14 +37,15 @@ pub fn script_of(alloc: Global, text: &[u8]) -> Result<Option<Script>, AllocErro
     if query.conjuncts.len() > 31 {
         return Ok(None);
     }
-    if !is_small(query.repeat, insert.values.len()) {
-        return Ok(None);
-    }
-    Ok(Some(Script {
+    let script = Script {
         create: CreateTable,
         insert,
         query,
-    }))
+    };
+    if !is_small(&script) {
+        return Ok(None);
+    }
+    Ok(Some(script))
 }
 
 // The INSERT at the front of the text.
@@ -58,7 +63,7 @@ fn insert_of(alloc: Global, text: &[u8]) -> Result<Option<(Insert, &[u8])>, Allo
 
 // The query at the front of the text.
 fn query_of(alloc: Global, text: &[u8]) -> Result<Option<(Query, &[u8])>, AllocError>
-    ensures { IfOk result (Reads (λ x. (x.0, x.1.now)) IsAsked query_text text.now) }
+    ensures { IfOk result (ReadsAny (λ x. (x.0, x.1.now)) IsAsked WritesQuery text.now) }
 {
     let Some(text) = after(text, b" SELECT PACKAGE(T) AS P FROM T REPEAT ") else {
         return Ok(None);
@@ -72,7 +77,17 @@ fn query_of(alloc: Global, text: &[u8]) -> Result<Option<(Query, &[u8])>, AllocE
     let Some((conjuncts, text)) = conjuncts_of(alloc, text)? else {
         return Ok(None);
     };
-    Ok(Some((Query { repeat, conjuncts }, text)))
+    let Some((budget, text)) = budget_of(text) else {
+        return Ok(None);
+    };
+    Ok(Some((
+        Query {
+            repeat,
+            conjuncts,
+            budget,
+        },
+        text,
+    )))
 }
 
 // Nothing is left, or one line feed.
@@ -80,18 +95,4 @@ fn is_end(text: &[u8]) -> bool
     ensures { IsTrue result ↔ ((text.now ≡ []) ⊎ (text.now ≡ 10 ∷ [])) }
 {
     matches!(text, [] | [b'\n'])
-}
-
-// There are few enough packages: so many values may each occur 0 to repeat + 1 times.
-fn is_small(repeat: u64, values: usize) -> bool
-    requires { repeat ≤ 1000000000000 }
-    ensures { IsTrue result ↔ ((repeat + 2) ^ values ≤ 1000) }
-{
-    let Ok(values) = u32::try_from(values) else {
-        return false;
-    };
-    match (repeat + 2).checked_pow(values) {
-        Some(packages) => packages <= 1000,
-        None => false,
-    }
 }

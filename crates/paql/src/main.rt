@@ -3,6 +3,7 @@
 
 mod answer;
 mod form;
+mod limits;
 mod replies;
 mod streams;
 mod top;

@@ -1,7 +1,7 @@
 //! The lines that answer an input.
 ghost use Rattle.std.specs.Prelude.{◌≡◌, ◌++◌, IfOk, OnOk, length, string_bytes};
 ghost use Rattle.paql.specs.Form.{followed, joined};
-ghost use Rattle.paql.specs.Replies.{created_line, inserted_line, optimal_line, infeasible_line, notbuilt_line, pair_text, pairs_text};
+ghost use Rattle.paql.specs.Replies.{created_line, inserted_line, optimal_line, infeasible_line, undecided_line, undecided_best_line, notbuilt_line, pair_text, pairs_text};
 
 use std::alloc::{AllocError, Global};
 
@@ -60,4 +60,31 @@ pub fn infeasible(alloc: Global) -> Result<String, AllocError>
     ensures { IfOk result (λ line. string_bytes line ≡ infeasible_line) }
 {
     String::from_str(alloc, "{\"status\":\"infeasible\",\"version\":2}\n")
+}
+
+/// The line of a search that its budget cut off before it found a package: no package that meets the query is worth
+/// more than the bound.
+pub fn undecided(alloc: Global, bound: i64, nodes: u32) -> Result<String, AllocError>
+    ensures { IfOk result (λ line. string_bytes line ≡ undecided_line bound nodes) }
+{
+    format!(in alloc;
+        "{{\"bound\":\"{bound}\",\"nodes\":{nodes},\"status\":\"undecided\",\"version\":2}}\n"
+    )
+}
+
+/// The same with the best package that was found.
+pub fn undecided_best(
+    alloc: Global,
+    bound: i64,
+    nodes: u32,
+    objective: i64,
+    pairs: &[(u64, u64)],
+) -> Result<String, AllocError>
+    ensures { IfOk result (λ line. string_bytes line ≡ undecided_best_line bound nodes objective pairs.now) }
+{
+    let package = pairs_of(alloc, pairs)?;
+    let package = package.as_str();
+    format!(in alloc;
+        "{{\"bound\":\"{bound}\",\"nodes\":{nodes},\"objective\":\"{objective}\",\"package\":[{package}],\"status\":\"undecided\",\"version\":2}}\n"
+    )
 }

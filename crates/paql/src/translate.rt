@@ -1,9 +1,10 @@
 //! From a script to a bounded integer program, and from its points back to packages.
-ghost use Rattle.std.specs.Prelude.{◌≡◌, ◌++◌, ◌∷◌, [], OnOk, ◌+◌, ◌<◌, ◌≤◌, ◌^◌, IfOk, map, length, unsigned_abs};
-ghost use Rattle.paql.specs.Form.{InRange};
+ghost use Rattle.std.specs.Prelude.{◌≡◌, ◌++◌, ◌∷◌, [], OnOk, ◌+◌, ◌<◌, ◌≤◌, ◌^◌, IfOk, map, length, replicate, unsigned_abs};
+ghost use Rattle.paql.specs.Form.{HasLimit, InRange};
 ghost use Rattle.std.specs.List.{AllByRecursion};
 ghost use Rattle.paql.specs.Translation.{signed, coefficient, row_of, side_of, program_of, package_from, IsAnswered, TranslationKeepsMeaning};
 
+use crate::limits::row_bound;
 use lin_bound::Problem;
 use paql_ast::{Conjunct, Measure, Script, Side};
 use sqlite_items::Items;
@@ -15,15 +16,47 @@ pub fn program_of(alloc: Global, script: &Script) -> Result<Problem, AllocError>
     ensures { IfOk result (λ problem. problem ≡ program_of script.now) }
 {
     let values = script.insert.values.as_slice();
-    let mut rows = Items::new(alloc);
-    let mut rhs = Items::new(alloc);
-    for conjunct in script.query.conjuncts.as_slice() {
-        rows.push(row_of(alloc, values, *conjunct)?)?;
-        rhs.push(signed(conjunct.side, conjunct.limit))?;
-    }
+    let conjuncts = script.query.conjuncts.as_slice();
     let cost = Items::from_slice(alloc, values)?;
-    let upper = vec![in alloc; script.query.repeat + 1; values.len()]?;
-    Ok(Problem::new(cost, rows, rhs, Items::from_vec(upper)))
+    let rows = rows_of(alloc, values, conjuncts)?;
+    let rhs = sides_of(alloc, conjuncts)?;
+    let upper = uppers_of(alloc, values.len(), row_bound(&script.query))?;
+    Ok(Problem::new(cost, rows, rhs, upper))
+}
+
+// So many variables, each at most so much.
+fn uppers_of(alloc: Global, variables: usize, most: u64) -> Result<Items<u64>, AllocError>
+    ensures { IfOk result (λ uppers. uppers ≡ replicate variables most) }
+{
+    Ok(Items::from_vec(vec![in alloc; most; variables]?))
+}
+
+// The row of each condition.
+fn rows_of(
+    alloc: Global,
+    values: &[i64],
+    conjuncts: &[Conjunct],
+) -> Result<Items<Items<i64>>, AllocError>
+    requires { AllByRecursion InRange values.now }
+    ensures { IfOk result (λ rows. rows ≡ map (row_of values.now) conjuncts.now) }
+{
+    let mut rows = Items::new(alloc);
+    for conjunct in conjuncts {
+        rows.push(row_of(alloc, values, *conjunct)?)?;
+    }
+    Ok(rows)
+}
+
+// The right-hand side of each condition.
+fn sides_of(alloc: Global, conjuncts: &[Conjunct]) -> Result<Items<i64>, AllocError>
+    requires { AllByRecursion HasLimit conjuncts.now }
+    ensures { IfOk result (λ sides. sides ≡ map side_of conjuncts.now) }
+{
+    let mut sides = Items::new(alloc);
+    for conjunct in conjuncts {
+        sides.push(signed(conjunct.side, conjunct.limit))?;
+    }
+    Ok(sides)
 }
 
 // The row of a condition: what each value's row adds.

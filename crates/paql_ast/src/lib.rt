@@ -46,12 +46,14 @@ pub struct Conjunct {
     pub limit: i64,
 }
 
-/// `SELECT PACKAGE(T) AS P FROM T REPEAT k SUCH THAT .. MAXIMIZE SUM(P.v)`. A row may occur
+/// `SELECT PACKAGE(T) AS P FROM T REPEAT k SUCH THAT .. MAXIMIZE SUM(P.v) BUDGET b`. A row may occur
 /// `repeat + 1` times.
 #[derive(Debug, Drop)]
 pub struct Query {
     pub repeat: u64,
     pub conjuncts: Items<Conjunct>,
+    /// How many nodes of its tree a search may do before it answers that it is undecided.
+    pub budget: u32,
 }
 
 /// A table, its rows, and a query over them.

@@ -48,7 +48,7 @@ is_better p box seen region none narrow =
       above = open_is_above p box seen one (none 0 (omega arith));
     }
 
-above_not_below : (p : ProblemData) (x : List ℕ) (seen : Option ℤ) → IsAbove (cost_at p x) seen → NotAbove p x seen → ⊥
+pub above_not_below : (p : ProblemData) (x : List ℕ) (seen : Option ℤ) → IsAbove (cost_at p x) seen → NotAbove p x seen → ⊥
 above_not_below p x None above below = below
 above_not_below p x (Some z) above below = omega (arith, ints, above, below)
 

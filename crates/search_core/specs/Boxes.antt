@@ -1,10 +1,10 @@
--- What a box is judged by, and the end of it that a branch moves.
-use Rattle.std.specs.Prelude.{ℕ, ◌<◌, ◌≤◌, length, slice_set, if◌then◌else◌, ℤ, Option}
+-- What a box is judged by.
+use Rattle.std.specs.Prelude.{◌≡◌, ℕ, ◌<◌, ◌≤◌, length, ℤ, Option}
 use Rattle.lin_bound.specs.Sums.{nat_at}
-use Rattle.lin_bound.specs.Problem.{ProblemData}
+use Rattle.lin_bound.specs.Problem.{ProblemData, row_count}
 use Rattle.lin_bound.specs.Bound.{Closes, plain}
 use Rattle.lin_bound.specs.declared.region.Region.{Region}
-use Rattle.lin_bound.specs.declared.path.Branch.{Branch}
+use Rattle.lin_bound.specs.declared.mult.Mult.{Mult}
 
 -- the variable can be more than one number in the box
 abbrev pub HasRoom : Region → ℕ → Type 0
@@ -23,11 +23,9 @@ HasNoRoom box = (i : ℕ) → i < length box.low → nat_at box.high i ≤ nat_a
 abbrev pub IsOpenBelow : ProblemData → Region → Option ℤ → ℕ → Type 0
 IsOpenBelow p box best n = (number : ℕ) → number < n → ¬ Closes p box (plain p number) best
 
--- the end of the box that a branch moves, and the box with that end elsewhere
-abbrev pub end_at : Branch → Region → ℕ
-end_at branch box = if branch.high then nat_at box.low branch.var else nat_at box.high branch.var
-
-abbrev pub moved : Branch → ℕ → Region → Region
-moved branch end box = if branch.high
-    then record { low = slice_set box.low branch.var end; high = box.high }
-    else record { low = box.low; high = slice_set box.high branch.var end }
+-- these multipliers are plain ones, and close the box
+pub record IsPlainlyClosed (p : ProblemData) (box : Region) (best : Option ℤ) (mult : Mult) : Type 0 where
+  pub number : ℕ
+  pub within : number ≤ row_count p
+  pub is : mult ≡ plain p number
+  pub closes : Closes p box mult best

@@ -1,3 +1,9 @@
 pub mod Boxes
 pub mod Search
 pub mod Nodes
+pub mod Core
+pub mod Moves
+pub mod Kept
+pub mod Runs
+pub mod Solo
+pub mod Solver

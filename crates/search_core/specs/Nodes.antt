@@ -1,10 +1,10 @@
 -- What comes of one box, and where a box is split.
-use Rattle.std.specs.Prelude.{◌≡◌, ℕ, ◌+◌, ◌/◌, ℤ, Option, None, Some, ◌⊎◌}
+use Rattle.std.specs.Prelude.{◌≡◌, ℕ, ◌+◌, ◌/◌, ◌≤◌, ℤ, Option, None, Some, ◌⊎◌}
 use lib.Signed.{◌<ℤ◌}
 use Rattle.lin_bound.specs.Sums.{nat_at}
-use Rattle.lin_bound.specs.Problem.{ProblemData, cost_at, IsFeasible}
+use Rattle.lin_bound.specs.Problem.{ProblemData, row_count, cost_at, IsFeasible}
 use Rattle.lin_bound.specs.Box.{Splits, IsOnePoint}
-use Rattle.lin_bound.specs.Bound.{Closes}
+use Rattle.lin_bound.specs.Bound.{Closes, plain}
 use Rattle.lin_bound.specs.declared.region.Region.{Region}
 use Rattle.lin_bound.specs.declared.mult.Mult.{Mult}
 use Rattle.cert_tree.specs.Records.{lower}
@@ -55,8 +55,16 @@ pub record IsSplit (p : ProblemData) (box : Region) (seen : Option ℤ) (proposa
   pub plainly : PlainlyOpen p box seen
   pub place : IsSplitAt box proposal var at
 
+-- the box is closed by the multipliers proposed or by plain ones
+abbrev pub IsTried : ProblemData → Proposal → Mult → Type 0
+IsTried p proposal chosen = (chosen ≡ proposal.mult) ⊎ ((number : ℕ) × (number ≤ row_count p) × (chosen ≡ plain p number))
+
+pub record IsClosed (p : ProblemData) (box : Region) (seen : Option ℤ) (proposal : Proposal) (chosen : Mult) : Type 0 where
+  pub tried : IsTried p proposal chosen
+  pub closes : Closes p box chosen seen
+
 -- What comes of a box: it is closed by the multipliers chosen, or split, or a better point.
 abbrev pub IsHandled : ProblemData → Region → Option ℤ → Proposal → Mult → Handled → Type 0
-IsHandled p box seen proposal chosen Closed = Closes p box chosen seen
+IsHandled p box seen proposal chosen Closed = IsClosed p box seen proposal chosen
 IsHandled p box seen proposal chosen (Split var at) = IsSplit p box seen proposal chosen var at
 IsHandled p box seen proposal chosen Better = IsBetter p box seen

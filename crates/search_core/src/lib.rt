@@ -2,14 +2,18 @@
 #![tactic(auto)]
 
 mod boxes;
+mod event;
+mod laws;
+mod machine;
 mod multipliers;
 mod node;
 mod solved;
 mod solver;
+mod state;
 
+pub use event::{Event, Hand, Seen, Stepped};
+pub use laws::{best_is_offered, enough_decides, runs_keep, splits_were_open};
+pub use machine::Core;
 pub use node::{Handled, Proposal, Work, handle_node, split_place};
-pub use solved::Solved;
-pub use solver::SoloSolver;
-
-#[cfg(test)]
-mod tests;
+pub use solved::{Found, Solved};
+pub use solver::{SoloSolver, Solver, go_on};

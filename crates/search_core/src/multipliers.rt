@@ -2,8 +2,8 @@
 ghost use Rattle.std.specs.Prelude.{◌≡◌, ◌+◌, ◌≤◌, length, replicate, MatchBool};
 ghost use Rattle.lin_bound.specs.Problem.{row_count};
 ghost use Rattle.lin_bound.specs.Box.{IsRegion};
-ghost use Rattle.lin_bound.specs.Bound.{IsMult, Closes, plain};
-ghost use Rattle.search_core.specs.Boxes.{IsOpenBelow};
+ghost use Rattle.lin_bound.specs.Bound.{IsMult, plain};
+ghost use Rattle.search_core.specs.Boxes.{IsOpenBelow, IsPlainlyClosed};
 
 use lin_bound::{Mult, Problem, Region, closes};
 use sqlite_items::Items;
@@ -55,7 +55,7 @@ pub fn is_closed(problem: &Problem, region: &Region, best: Option<i64>, mult: &m
     requires region { IsRegion problem.now region.now }
     requires mult { IsMult problem.now mult.old }
     ensures mult { IsMult problem.now mult.new }
-    ensures yes { MatchBool result (Closes problem.now region.now mult.new best) (IsOpenBelow problem.now region.now best (row_count problem.now + 1)) }
+    ensures yes { MatchBool result (IsPlainlyClosed problem.now region.now best mult.new) (IsOpenBelow problem.now region.now best (row_count problem.now + 1)) }
 {
     for number in 0..problem.row_count() + 1 {
         choose_plain(problem, number, mult);

@@ -1,7 +1,7 @@
 //! One node of a search: its box is closed, split, or a better point.
-ghost use Rattle.std.specs.Prelude.{◌≡◌, ◌^◌, ◌<◌, ◌↔◌, IsTrue, length, IfOk};
+ghost use Rattle.std.specs.Prelude.{◌≡◌, ◌^◌, ◌-◌, ◌<◌, ◌↔◌, IsTrue, length, IfOk};
 ghost use Rattle.lin_bound.specs.Box.{IsRegion, Splits};
-ghost use Rattle.lin_bound.specs.Bound.{IsMult};
+ghost use Rattle.lin_bound.specs.Bound.{IsMult, plain};
 ghost use Rattle.cert_tree.specs.Records.{lower};
 ghost use Rattle.search_core.specs.Nodes.{IsBetter, IsSplitPlace, IsHandled};
 ghost use Rattle.search_core.specs.declared.node.Handled.TheVariants.{Better};
@@ -21,9 +21,11 @@ pub struct Proposal {
 }
 
 impl Proposal {
-    /// The multipliers of the cost alone, and no place, so that a box is halved at the first variable with room.
+    /// The multipliers of the cost alone, and a place that divides no box, so that each is halved at the first variable
+    /// with room.
     pub fn plain(alloc: Global, problem: &Problem) -> Result<Proposal, AllocError>
-        ensures { IfOk result (λ proposal. IsMult problem.now proposal.mult) }
+        ensures value { IfOk result (λ proposal. proposal ≡ record { mult = plain problem.now 0; var = 0; at = 2 ^ 64 - 1 }) }
+        ensures mult { IfOk result (λ proposal. IsMult problem.now proposal.mult) }
     {
         Ok(Proposal {
             mult: plain_mult(alloc, problem, 0)?,
@@ -53,7 +55,8 @@ pub struct Work {
 impl Work {
     /// Room that fits the problem.
     pub fn new(alloc: Global, problem: &Problem) -> Result<Work, AllocError>
-        ensures { IfOk result (λ work. IsMult problem.now work.mult) }
+        ensures value { IfOk result (λ work. work.mult ≡ plain problem.now 0) }
+        ensures mult { IfOk result (λ work. IsMult problem.now work.mult) }
     {
         let mult = plain_mult(alloc, problem, 0)?;
         Ok(Work { mult })

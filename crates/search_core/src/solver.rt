@@ -1,107 +1,155 @@
-//! The search of one worker.
-ghost use Rattle.std.specs.Prelude.{◌≡◌, ◌-◌, ◌*◌, ◌≤◌, IfOk, OnOk};
-ghost use Rattle.lin_bound.specs.Problem.{variables};
-ghost use Rattle.lin_bound.specs.Box.{half, IsRegion, Splits};
+//! Solvers, and the one that searches by itself.
+ghost use Rattle.std.specs.Prelude.{◌≡◌, ◌≢◌, [], ◌<◌, ◌≤◌, length, All, IfOk, MatchBool};
 ghost use Rattle.lin_bound.specs.Bound.{IsMult};
-ghost use Rattle.search_core.specs.Search.{IsFound, Improves, IsSolved, points_below};
+ghost use Rattle.cert_tree.specs.declared.records.Record.{Record as RecordData};
+ghost use Rattle.cert_tree.specs.Records.{IsBalanced};
+ghost use Rattle.cert_tree.specs.Laws.{IsPlainlyRight};
+ghost use Rattle.cert_tree.specs.Multipliers.{ActIsLegal};
+ghost use Rattle.search_core.specs.Search.{IsFound, value_in};
+ghost use Rattle.search_core.specs.Core.{begun, IsReady};
+ghost use Rattle.search_core.specs.Kept.{IsKept};
+ghost use Rattle.search_core.specs.Runs.{start};
+ghost use Rattle.search_core.specs.Solo.{IsAlone, IsBegun, IsAdvanced};
+ghost use Rattle.search_core.specs.Solver.{IsSolved, IsEndOf, IsSearched};
 
-use crate::boxes::{end_of, move_end, point_of};
-use crate::node::{Handled, Proposal, Work, handle_node};
+use crate::event::Stepped;
+use crate::node::Proposal;
 use crate::solved::{Found, Solved, best_value};
-use lin_bound::{Branch, Path, Problem, Region, box_of};
+use crate::state::State;
+use cert_tree::{Record, assemble, most_left};
+use lin_bound::{Path, Problem};
 use std::alloc::{AllocError, Global};
+
+/// What solves a problem exactly, or says what is left possible when the budget is spent.
+pub trait Solver {
+    /// A best point, or that none exists, or what is left possible once as many nodes as the budget are done.
+    fn solve(&mut self, alloc: Global, problem: &Problem, budget: u32) -> Result<Solved, AllocError>
+        requires { 1 ≤ budget }
+        ensures { IfOk result (λ solved. IsSolved problem.now budget solved) };
+}
 
 /// A search that one worker makes from start to end.
 #[derive(Debug, Drop)]
 pub struct SoloSolver;
 
-impl SoloSolver {
-    /// The best feasible point, by branch and bound. The budget is the number of boxes that may be looked at:
-    /// a halving of all points visits no more than twice as many boxes as there are points, less one.
+impl Solver for SoloSolver {
+    /// Branch and bound, from the whole box on.
     /// See Land and Doig, An automatic method of solving discrete programming problems, Econometrica 28 (1960).
-    pub fn solve(
-        &mut self,
-        alloc: Global,
-        problem: &Problem,
-        _budget: u32,
-    ) -> Result<Solved, AllocError>
-        requires { 2 * points_below problem.now.upper (variables problem.now) - 1 ≤ _budget }
-        ensures { IfOk result (λ solved. IsSolved problem.now solved) }
+    fn solve(&mut self, alloc: Global, problem: &Problem, budget: u32) -> Result<Solved, AllocError>
+        requires { 1 ≤ budget }
+        ensures solved { IfOk result (λ solved. IsSolved problem.now budget solved) }
+        ensures searched { IfOk result (λ solved. IsSearched problem.now (start budget) solved) }
     {
-        let mut region = box_of(alloc, problem, &Path::new(alloc))?;
-        let mut work = Work::new(alloc, problem)?;
-        let proposal = Proposal::plain(alloc, problem)?;
-        match improve(alloc, problem, &proposal, &mut work, &mut region, None)? {
-            Some(found) => Ok(Solved::Best {
-                value: found.value,
-                point: found.point,
-            }),
-            None => Ok(Solved::NoneExists),
-        }
+        let mut left = Vec::new(alloc);
+        left.push(Path::new(alloc))?;
+        go_on(alloc, problem, budget, Vec::new(alloc), left, None)
     }
 }
 
-/// The better of the best so far and the best of the box. The box is lent, and comes back as it was.
-#[cycle(search)]
-fn improve(
+/// Does what a search left, on the caller's thread: nodes already recorded count as done.
+pub fn go_on(
+    alloc: Global,
+    problem: &Problem,
+    budget: u32,
+    records: Vec<Record>,
+    left: Vec<Path>,
+    best: Option<Found>,
+) -> Result<Solved, AllocError>
+    requires budget { 1 ≤ budget }
+    requires few { length records.items ≤ budget }
+    requires balanced { IsBalanced records.items left.items }
+    requires found { IsFound problem.now best }
+    requires right { All (λ (done : RecordData). IsPlainlyRight problem.now (value_in best) done.path done.act) records.items }
+    requires legal { All (λ (done : RecordData). ActIsLegal problem.now done.act) records.items }
+    ensures solved { IfOk result (λ solved. IsSolved problem.now budget solved) }
+    ensures searched { IfOk result (λ solved. IsSearched problem.now (record { budget = budget; left = left.items; hands = []; best = best; records = records.items }) solved) }
+{
+    let proposal = Proposal::plain(alloc, problem)?;
+    let mut state = State::new(alloc, budget, records, left, best);
+    while state.has_next() {
+        do_next(alloc, problem, &proposal, &mut state)?;
+    }
+    finish(alloc, problem, state)
+}
+
+/// Takes an open path and does its node.
+fn do_next(
     alloc: Global,
     problem: &Problem,
     proposal: &Proposal,
-    work: &mut Work,
-    region: &mut Region,
-    best: Option<Found>,
-) -> Result<Option<Found>, AllocError>
+    state: &mut State,
+) -> Result<(), AllocError>
+    requires kept { IsKept problem.now state.old }
     requires proposal { IsMult problem.now proposal.now.mult }
-    requires work { IsMult problem.now work.old.mult }
-    requires region { IsRegion problem.now region.old }
-    requires best { IsFound problem.now best }
-    ensures work { IsMult problem.now work.new.mult }
-    ensures same { OnOk result (region.new ≡ region.old) }
-    ensures better { IfOk result (λ now. Improves problem.now region.old best now) }
+    requires idle { state.old.hands ≡ [] }
+    requires room { begun state.old < state.old.budget }
+    requires some { state.old.left ≢ [] }
+    ensures { IfOk result (λ _. IsAdvanced problem.now state.old state.new) }
 {
-    match handle_node(problem, region, best_value(&best), proposal, work) {
-        Handled::Closed => Ok(best),
-        Handled::Better => Ok(Some(point_of(alloc, problem, region)?)),
-        Handled::Split { var, at } => {
-            let lower = Branch {
-                var,
-                at,
-                high: false,
-            };
-            let upper = Branch {
-                var,
-                at,
-                high: true,
-            };
-            let best = improve_half(alloc, problem, proposal, work, region, lower, best)?;
-            improve_half(alloc, problem, proposal, work, region, upper, best)
-        }
+    begin(state)?;
+    match state.handle(alloc, problem, 0, proposal)? {
+        Stepped::Done => Ok(()),
+        Stepped::NotEnabled => offer_and_close(alloc, problem, proposal, state),
     }
 }
 
-/// The same of one half of the box.
-#[cycle(search)]
-fn improve_half(
+/// Takes an open path, and looks at the best value.
+fn begin(state: &mut State) -> Result<(), AllocError>
+    requires idle { state.old.hands ≡ [] }
+    requires room { begun state.old < state.old.budget }
+    requires some { state.old.left ≢ [] }
+    ensures { IfOk result (λ _. IsBegun state.old state.new) }
+{
+    state.take_last(0)?;
+    state.look(0);
+    Ok(())
+}
+
+/// Offers the one point of the box in hand, which is a better one, and closes the box.
+fn offer_and_close(
     alloc: Global,
     problem: &Problem,
     proposal: &Proposal,
-    work: &mut Work,
-    region: &mut Region,
-    branch: Branch,
-    best: Option<Found>,
-) -> Result<Option<Found>, AllocError>
+    state: &mut State,
+) -> Result<(), AllocError>
+    requires kept { IsKept problem.now state.old }
     requires proposal { IsMult problem.now proposal.now.mult }
-    requires work { IsMult problem.now work.old.mult }
-    requires region { IsRegion problem.now region.old }
-    requires splits { Splits branch region.old }
-    requires best { IsFound problem.now best }
-    ensures work { IsMult problem.now work.new.mult }
-    ensures same { OnOk result (region.new ≡ region.old) }
-    ensures better { IfOk result (λ now. Improves problem.now (half branch region.old) best now) }
+    requires alone { IsAlone state.old }
+    requires stuck { ¬ IsReady problem.now state.old 0 proposal.now }
+    ensures { IfOk result (λ _. IsAdvanced problem.now state.old state.new) }
 {
-    let end = end_of(region, branch);
-    region.narrow(branch);
-    let best = improve(alloc, problem, proposal, work, region, best)?;
-    move_end(region, branch, end);
-    Ok(best)
+    let _legal = problem.variables();
+    let point = state.low_point(alloc, problem, 0)?;
+    state.offer(problem, point);
+    state.look(0);
+    state.handle(alloc, problem, 0, proposal)?;
+    Ok(())
+}
+
+/// The answer of a search that has nothing more to do, or no more budget.
+fn finish(alloc: Global, problem: &Problem, state: State) -> Result<Solved, AllocError>
+    requires kept { IsKept problem.now state }
+    requires idle { state.hands ≡ [] }
+    requires end { state.left ≢ [] → state.budget ≤ begun state }
+    ensures solved { IfOk result (λ solved. IsSolved problem.now state.budget solved) }
+    ensures ended { IfOk result (λ solved. IsEndOf state solved) }
+{
+    let (records, left, best) = state.into_parts();
+    let is_whole = is_none(&left);
+    let tree = assemble(alloc, records, left)?;
+    if !is_whole {
+        let bound = most_left(alloc, problem, &tree, best_value(&best))?;
+        return Ok(Solved::Undecided { best, bound, tree });
+    }
+    match best {
+        Some(Found { value, point }) => Ok(Solved::Best { value, point, tree }),
+        None => Ok(Solved::NoneExists { tree }),
+    }
+}
+
+/// Whether no path is open.
+fn is_none(left: &[Path]) -> bool
+    ensures { MatchBool result (left.now ≡ []) (left.now ≢ []) }
+{
+    left.is_empty()
 }

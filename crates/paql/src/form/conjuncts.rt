@@ -8,13 +8,13 @@ use paql_ast::{Conjunct, Measure, Side};
 use sqlite_items::Items;
 use std::alloc::{AllocError, Global};
 
-/// The conditions at the front of the text, up to the end of the query, and what stands behind it.
+/// The conditions at the front of the text, with the goal, and what stands behind it.
 pub fn conjuncts_of(
     alloc: Global,
     text: &[u8],
 ) -> Result<Option<(Items<Conjunct>, &[u8])>, AllocError>
     ensures { IfOk result (Reads (λ x. (x.0, x.1.now)) (AreItems HasLimit)
-        (λ conjuncts. joined (codes "AND ") conjunct_text conjuncts ++ codes "MAXIMIZE SUM(P.v);") text.now) }
+        (λ conjuncts. joined (codes "AND ") conjunct_text conjuncts ++ codes "MAXIMIZE SUM(P.v)") text.now) }
 {
     let mut conjuncts = Items::new(alloc);
     let Some((first, mut rest)) = conjunct_of(text) else {
@@ -28,7 +28,7 @@ pub fn conjuncts_of(
         conjuncts.push(conjunct)?;
         rest = behind;
     }
-    let Some(behind) = after(rest, b"MAXIMIZE SUM(P.v);") else {
+    let Some(behind) = after(rest, b"MAXIMIZE SUM(P.v)") else {
         return Ok(None);
     };
     Ok(Some((conjuncts, behind)))

@@ -1,6 +1,7 @@
 use super::*;
 use pq_base::{MemSink, MemSource, OpenGate};
 use std::alloc::AllocError;
+use std::process::Abort;
 use std::test::Fail;
 
 const FIRST: &str =
@@ -41,26 +42,46 @@ fn run_on(input: &str) -> Run<'_> {
     }
 }
 
-// A script with these values and this query behind REPEAT.
-fn script(alloc: Global, values: &str, query: &str) -> Result<String, AllocError> {
+// A script with these values, this query behind REPEAT, and this end behind the goal.
+fn script(alloc: Global, values: &str, query: &str, ending: &str) -> Result<String, AllocError> {
     format!(in alloc;
-        "CREATE TABLE T (v INT); INSERT INTO T VALUES {values}; SELECT PACKAGE(T) AS P FROM T REPEAT {query} MAXIMIZE SUM(P.v);"
+        "CREATE TABLE T (v INT); INSERT INTO T VALUES {values}; SELECT PACKAGE(T) AS P FROM T REPEAT {query} MAXIMIZE SUM(P.v){ending}"
     )
+}
+
+const TEN: &str =
+    "{\"objective\":\"10\",\"package\":[[1,2]],\"status\":\"optimal\",\"version\":2}\n";
+
+const NOTHING: &str = "{\"objective\":\"0\",\"package\":[],\"status\":\"optimal\",\"version\":2}\n";
+
+const INFEASIBLE: &str = "{\"status\":\"infeasible\",\"version\":2}\n";
+
+// The last line that answers the script is this one.
+fn assert_answered(
+    rt: &impl Abort,
+    alloc: Global,
+    text: &str,
+    rows: u32,
+    want: &str,
+) -> Result<(), Fail> {
+    let (status, out) = outcome(alloc, run_on(text))?;
+    let lines = format!(in alloc;
+        "{{\"status\":\"created\",\"version\":1}}\n{{\"rows\":{rows},\"status\":\"inserted\",\"version\":2}}\n{want}"
+    )?;
+    assert_eq!(rt; status, 0, "{text}");
+    assert_eq!(rt; out.as_slice(), lines.as_str().as_bytes(), "{text}");
+    Ok(())
 }
 
 #[test]
 fn scripts_are_answered(rt: HostRuntime) -> Result<(), Fail> {
     let alloc = rt.alloc();
-    let optimal =
-        "{\"objective\":\"10\",\"package\":[[1,2]],\"status\":\"optimal\",\"version\":2}\n";
     let second = "{\"objective\":\"9\",\"package\":[[2,1]],\"status\":\"optimal\",\"version\":2}\n";
     let negative =
         "{\"objective\":\"-3\",\"package\":[[1,1]],\"status\":\"optimal\",\"version\":2}\n";
-    let none = "{\"objective\":\"0\",\"package\":[],\"status\":\"optimal\",\"version\":2}\n";
-    let infeasible = "{\"status\":\"infeasible\",\"version\":2}\n";
     for (values, query, rows, want) in [
-        ("(5)", "2 SUCH THAT SUM(P.v) <= 14", 1, optimal),
-        ("(5)", "2 SUCH THAT SUM(P.v) <= -1", 1, infeasible),
+        ("(5)", "2 SUCH THAT SUM(P.v) <= 14", 1, TEN),
+        ("(5)", "2 SUCH THAT SUM(P.v) <= -1", 1, INFEASIBLE),
         (
             "(2),(9)",
             "0 SUCH THAT SUM(P.v) >= 3 AND COUNT(P.*) <= 1",
@@ -68,28 +89,74 @@ fn scripts_are_answered(rt: HostRuntime) -> Result<(), Fail> {
             second,
         ),
         ("(-3)", "998 SUCH THAT COUNT(P.*) >= 1", 1, negative),
-        ("(-3)", "0 SUCH THAT COUNT(P.*) >= 0", 1, none),
+        ("(-3)", "0 SUCH THAT COUNT(P.*) >= 0", 1, NOTHING),
         (
             "(2),(2),(2)",
             "0 SUCH THAT SUM(P.v) <= 3 AND SUM(P.v) >= 3",
             3,
-            infeasible,
+            INFEASIBLE,
         ),
         (
             "(1000000000000)",
             "0 SUCH THAT SUM(P.v) <= -1000000000000",
             1,
-            infeasible,
+            INFEASIBLE,
+        ),
+        // The row bound and the sums at their ends.
+        ("(5)", "999999 SUCH THAT SUM(P.v) <= 14", 1, TEN),
+        (
+            "(5)",
+            "5000000 SUCH THAT SUM(P.v) <= 14 AND COUNT(P.*) <= 3",
+            1,
+            TEN,
+        ),
+        ("(5)", "2 SUCH THAT COUNT(P.*) <= 0", 1, NOTHING),
+        ("(5)", "5000000 SUCH THAT COUNT(P.*) <= -1", 1, INFEASIBLE),
+        (
+            "(1000000000000)",
+            "999999 SUCH THAT SUM(P.v) <= 14",
+            1,
+            NOTHING,
         ),
     ] {
-        let text = script(alloc, values, query)?;
-        let (status, out) = outcome(alloc, run_on(text.as_str()))?;
-        let lines = format!(in alloc;
-            "{{\"status\":\"created\",\"version\":1}}\n{{\"rows\":{rows},\"status\":\"inserted\",\"version\":2}}\n{want}"
-        )?;
-        assert_eq!(rt; status, 0, "{text}");
-        assert_eq!(rt; out.as_slice(), lines.as_str().as_bytes(), "{text}");
+        let text = script(alloc, values, query, ";")?;
+        assert_answered(&rt, alloc, text.as_str(), rows, want)?;
     }
+    Ok(())
+}
+
+#[test]
+fn budgets_are_kept(rt: HostRuntime) -> Result<(), Fail> {
+    let alloc = rt.alloc();
+    let none = "{\"bound\":\"6\",\"nodes\":1,\"status\":\"undecided\",\"version\":2}\n";
+    // Lower halves come first: 0 to 4, 0 to 2, 0 to 1, then the points 0 and 1.
+    let some =
+        "{\"bound\":\"4\",\"nodes\":5,\"objective\":\"1\",\"package\":[[1,1]],\"status\":\"undecided\",\"version\":2}\n";
+    let odd = "0 SUCH THAT SUM(P.v) <= 3 AND SUM(P.v) >= 3";
+    for (values, query, ending, rows, want) in [
+        ("(2),(2),(2)", odd, " BUDGET 1;", 3, none),
+        ("(2),(2),(2)", odd, " BUDGET 15;", 3, INFEASIBLE),
+        ("(1)", "3 SUCH THAT SUM(P.v) <= 14", " BUDGET 5;", 1, some),
+        ("(5)", "2 SUCH THAT SUM(P.v) <= 14", " BUDGET 2000;", 1, TEN),
+        (
+            "(5)",
+            "2 SUCH THAT SUM(P.v) <= 14",
+            " BUDGET 20000;\n",
+            1,
+            TEN,
+        ),
+    ] {
+        let text = script(alloc, values, query, ending)?;
+        assert_answered(&rt, alloc, text.as_str(), rows, want)?;
+    }
+    Ok(())
+}
+
+// The input is refused.
+fn assert_notbuilt(rt: &impl Abort, alloc: Global, text: &str) -> Result<(), Fail> {
+    let (status, out) = outcome(alloc, run_on(text))?;
+    assert_eq!(rt; status, 0, "{text}");
+    assert_eq!(rt; out.as_slice(), NOTBUILT.as_bytes(), "{text}");
     Ok(())
 }
 
@@ -103,24 +170,37 @@ fn other_input_is_notbuilt(rt: HostRuntime) -> Result<(), Fail> {
         ("(5),", "2 SUCH THAT SUM(P.v) <= 14"),
         ("(1000000000001)", "2 SUCH THAT SUM(P.v) <= 14"),
         ("(5)", "-1 SUCH THAT SUM(P.v) <= 14"),
-        ("(5)", "999 SUCH THAT SUM(P.v) <= 14"),
+        ("(5)", "1000000 SUCH THAT SUM(P.v) <= 14"),
+        ("(5)", "5000000 SUCH THAT SUM(P.v) <= 14"),
+        ("(5)", "5000000 SUCH THAT COUNT(P.*) >= 3 AND SUM(P.v) <= 3"),
         ("(5)", "2 SUCH THAT SUM(P.v) < 14"),
         ("(5)", "2 SUCH THAT SUM(P.v) <= 14 AND"),
         (
-            "(1),(1),(1),(1),(1),(1),(1),(1),(1),(1)",
-            "0 SUCH THAT SUM(P.v) <= 14",
+            "(1000000000000),(1000000000000)",
+            "999999 SUCH THAT SUM(P.v) <= 14",
         ),
     ] {
-        let text = script(alloc, values, query)?;
-        let (status, out) = outcome(alloc, run_on(text.as_str()))?;
-        assert_eq!(rt; status, 0, "{text}");
-        assert_eq!(rt; out.as_slice(), NOTBUILT.as_bytes(), "{text}");
+        let text = script(alloc, values, query, ";")?;
+        assert_notbuilt(&rt, alloc, text.as_str())?;
+    }
+    for ending in [
+        " BUDGET 0;",
+        " BUDGET 20001;",
+        " BUDGET 05;",
+        " budget 5;",
+        "  BUDGET 5;",
+        " BUDGET  5;",
+        " BUDGET 5 ;",
+        " BUDGET -5;",
+        " BUDGET;",
+        "",
+    ] {
+        let text = script(alloc, "(5)", "2 SUCH THAT SUM(P.v) <= 14", ending)?;
+        assert_notbuilt(&rt, alloc, text.as_str())?;
     }
     let fed = format!(in alloc; "{FIRST}\n\n")?;
     for text in ["", "\n", "CREATE TABLE T (v INT);", fed.as_str()] {
-        let (status, out) = outcome(alloc, run_on(text))?;
-        assert_eq!(rt; status, 0, "{text}");
-        assert_eq!(rt; out.as_slice(), NOTBUILT.as_bytes(), "{text}");
+        assert_notbuilt(&rt, alloc, text)?;
     }
     Ok(())
 }

@@ -1,4 +1,4 @@
-use Rattle.std.proofs.Common.{sym, ◌∙◌, refl}
+use Rattle.std.proofs.Common.{sym, ◌∙◌, refl, inr}
 use Rattle.std.proofs.lemmas.Bool.{false≢true}
 use Rattle.search_core.proofs.Nodes.{plainly_open, is_better, closed_not_better}
 use Rattle.search_core.proofs.node.handle_node.Goals as goal
@@ -14,8 +14,13 @@ pub returns-then-is_closed-clause-better : goal.returns-then-is_closed-clause-be
 returns-then-is_closed-clause-better c = (
   λ e. cc,
   λ better.
-      absurd (closed_not_better c.args.problem.now c.args.region.now c.is_closed.new.mult c.args.seen c.requires.region c.if-is_closed.ensures.yes better),
+      absurd (closed_not_better c.args.problem.now c.args.region.now c.is_closed.new.mult c.args.seen c.requires.region c.if-is_closed.ensures.yes.closes better),
 )
+
+pub returns-then-is_closed-clause-handled : goal.returns-then-is_closed-clause-handled
+returns-then-is_closed-clause-handled c =
+    let plainly = c.if-is_closed.ensures.yes in
+    record { tried = inr (plainly.number, plainly.within, plainly.is); closes = plainly.closes }
 
 pub returns-in_default-clause-handled : goal.returns-in_default-clause-handled
 returns-in_default-clause-handled c = is_better c.args.problem.now c.args.region.now c.args.seen c.requires.region c.if-is_closed.ensures.yes c.in_default.ensures

@@ -1,0 +1,167 @@
+-- When the node in hand is handled, and what that comes to.
+use Rattle.std.proofs.Common.{◌≡◌, ℕ, zero, suc, Bool, true, if◌then◌else◌, ◌+◌, ◌<◌, ◌≤◌, List, [], ◌∷◌, ◌++◌, map, length, remove, refl, sym, ap, subst, ◌∙◌, arith, inl, inr, IsPermutation, Contains, All, Some, sum_by}
+use Rattle.std.specs.Prelude.{◌==◌, slice_get, slice_index_or, ℤ, Option, ◌⊎◌}
+use Rattle.std.proofs.lemmas.Cmp.{nat_eq_equiv}
+use Rattle.std.proofs.lemmas.List.{length-map, get_or-map}
+use Rattle.std.proofs.lemmas.List.Elements.{All-contains, All-weaker, Contains-append_right}
+use Rattle.std.proofs.lemmas.List.Sums.{sum_by-cons}
+use Rattle.std.proofs.lemmas.List.Sorted.{Contains-permutation, sum_by-IsPermutation, IsPermutation-append_comm, IsPermutation-append_left, IsPermutation-trans, IsPermutation-reverse}
+use Rattle.std.proofs.lemmas.Option.{slice_get_within, get_or_from_slice_get, slice_get-get_or, slice_get_read}
+use Rattle.lin_bound.specs.Problem.{ProblemData, row_count}
+use Rattle.lin_bound.specs.Box.{box_at, IsPath, IsRegion}
+use Rattle.lin_bound.specs.Bound.{IsMult, Closes, plain}
+use Rattle.lin_bound.specs.declared.region.Region.{Region}
+use Rattle.lin_bound.specs.declared.path.Branch.{Branch}
+use Rattle.lin_bound.specs.declared.mult.Mult.{Mult}
+use Rattle.cert_tree.specs.declared.records.Record.{Record}
+use Rattle.cert_tree.specs.declared.records.Act.TheVariants.{Closed, Split}
+use Rattle.cert_tree.specs.Records.{lower, upper, children_of}
+use Rattle.cert_tree.specs.Laws.{IsPlainlyRight}
+use Rattle.cert_tree.proofs.Paths.{Divides, divides_plainly, left_paths}
+use Rattle.search_core.specs.Search.{value_in}
+use Rattle.search_core.specs.Nodes.{IsTried, IsClosed, IsSplit, IsBetter}
+use Rattle.search_core.specs.Core.{CoreState, Holds, IsBusy, IsHeldAt, IsClosable, HasMore, IsReady, IsRecorded, IsClosedBy, IsSplitBy}
+use Rattle.search_core.specs.Moves.{Moves, IsClosing, IsSplitting}
+use Rattle.search_core.specs.Kept.{path_held, one_of, nodes_of, IsKept}
+use Rattle.search_core.specs.declared.event.Hand.{Hand}
+use Rattle.search_core.specs.declared.event.Seen.{Seen}
+use Rattle.search_core.specs.declared.event.Seen.TheVariants.{NotLooked, Looked}
+use Rattle.search_core.specs.declared.node.Proposal.{Proposal}
+use Rattle.search_core.proofs.Nodes.{closed_not_better, place_splits}
+use Rattle.search_core.proofs.Table.{found_at, taken_out}
+
+-- a worker's own node counts
+pub its_own : (worker : ℕ) (hand : Hand) → hand.worker ≡ worker → one_of worker hand ≡ 1
+its_own worker hand same =
+    let alike : (worker == hand.worker) ≡ true = subst (λ (w : ℕ). (worker == w) ≡ true) (sym same) (nat_eq_equiv.refl worker) in
+    ap (λ (b : Bool). if b then 1 else 0) alike
+
+-- a worker that has a node has one at least, and where it has no more than one, all of its nodes are the same
+has_some : (hands : List Hand) (worker place : ℕ) (hand : Hand) → slice_get hands place ≡ Some hand → hand.worker ≡ worker → nodes_of worker hands ≡ 1 + nodes_of worker (remove hands place)
+has_some hands worker place hand there same =
+    omega (arith, sum_by-IsPermutation (one_of worker) hands (hand ∷ remove hands place) (taken_out hands place hand there), sum_by-cons (one_of worker) hand (remove hands place), its_own worker hand same)
+
+held_by : (hands : List Hand) (worker : ℕ) (hand : Hand) → Holds hands worker hand → 1 ≤ nodes_of worker hands
+held_by hands worker hand held =
+    omega (arith, has_some hands worker held.0.0 hand (slice_get-get_or hands held.0.0 hand held.0.1 ∙ ap Some held.0.2) held.1)
+
+first_or_later : (one other : Hand) (hands : List Hand) → Contains (one ∷ hands) other → (one ≡ other) ⊎ Contains hands other
+first_or_later one other hands (zero, within, is) = inl is
+first_or_later one other hands (suc place, within, is) = inr (place, omega (arith, within), is)
+
+pub only_one : (hands : List Hand) (worker place : ℕ) (one other : Hand) → nodes_of worker hands ≤ 1 → slice_get hands place ≡ Some one → one.worker ≡ worker → Holds hands worker other → one ≡ other
+only_one hands worker place one other most there same held =
+    elim (first_or_later one other (remove hands place) (Contains-permutation hands (one ∷ remove hands place) other (taken_out hands place one there) held.0)) [
+      | inl is ↦ is
+      | inr later ↦ absurd (omega (arith, most, has_some hands worker place one there same, held_by (remove hands place) worker other (later, held.1)))
+    ]
+
+Contains-map : {X Y : Type 0} (f : X → Y) (xs : List X) (place : ℕ) (x : X) → slice_get xs place ≡ Some x → Contains (map f xs) (f x)
+Contains-map f xs place x there = (place, omega (arith, length-map xs f, slice_get_within xs place x there), get_or-map f xs place x (f x) (slice_get_within xs place x there) ∙ ap f (get_or_from_slice_get xs place x x there))
+
+looked_same : (one other : Option ℤ) → Looked one ≡ Looked other → one ≡ other
+looked_same one other same = cc
+
+some_same : (one other : Hand) → Some one ≡ Some other → one ≡ other
+some_same one other same = cc
+
+not_able : (p : ProblemData) (box : Region) (seen : Option ℤ) (proposal : Proposal) → IsRegion p box → IsBetter p box seen → IsClosable p box seen proposal ⊎ HasMore p box → ⊥
+not_able p box seen proposal region better (inl (inl closes)) = closed_not_better p box proposal.mult seen region closes better
+not_able p box seen proposal region better (inl (inr plainly)) = closed_not_better p box (plain p plainly.0) seen region plainly.2 better
+not_able p box seen proposal region better (inr more) = omega (arith, more.2, better.one more.0 more.1)
+
+opened : (old new : List (List Branch)) (hand : Hand) (var at : ℕ) (mult : Mult) → new ≡ old ++ (hand.path ++ upper var at ∷ []) ∷ ((hand.path ++ lower var at ∷ []) ∷ []) → IsPermutation new (children_of hand.path (Split var at mult) ++ old)
+opened old new hand var at mult is =
+    let low = hand.path ++ lower var at ∷ [] in
+    let high = hand.path ++ upper var at ∷ [] in
+    subst (λ (paths : List (List Branch)). IsPermutation paths (low ∷ (high ∷ old))) (sym is)
+    (IsPermutation-trans (old ++ high ∷ (low ∷ [])) ((high ∷ (low ∷ [])) ++ old) (low ∷ (high ∷ old))
+    (IsPermutation-append_comm old (high ∷ (low ∷ [])))
+    (IsPermutation-append_left old (high ∷ (low ∷ [])) (low ∷ (high ∷ [])) (IsPermutation-reverse (high ∷ (low ∷ [])))))
+
+-- the node that stands where a worker's does is the worker's
+pub at_hand : (hands : List Hand) (worker place : ℕ) (found : Hand) → IsHeldAt hands worker place → found ≡ slice_index_or hands place found → (slice_get hands place ≡ Some found) × (found.worker ≡ worker)
+at_hand hands worker place found held is =
+    let same : found ≡ held.0 = is ∙ get_or_from_slice_get hands place held.0 found held.1 in
+    (held.1 ∙ ap Some (sym same), ap (λ (h : Hand). h.worker) same ∙ held.2)
+
+-- the paths of nodes in hand are the problem's
+pub hand_path : (p : ProblemData) (state : CoreState) (place : ℕ) (hand : Hand) → IsKept p state → slice_get state.hands place ≡ Some hand → IsPath p hand.path
+hand_path p state place hand kept there =
+    let paths = state.left ++ map path_held state.hands in
+    let divides = All-weaker (λ (done : Record). IsPlainlyRight p (value_in state.best) done.path done.act) (λ (done : Record). Divides p done.path done.act) (λ done right. divides_plainly p (value_in state.best) done.path done.act right) state.records kept.right in
+    All-contains (IsPath p) paths hand.path (left_paths p state.records paths kept.balanced divides)
+    (Contains-append_right state.left (map path_held state.hands) hand.path (Contains-map path_held state.hands place hand there))
+
+-- a node that was not looked at is not ready
+pub unlooked : (p : ProblemData) (state : CoreState) (worker place : ℕ) (proposal : Proposal) (hand : Hand) → IsKept p state → slice_get state.hands place ≡ Some hand → hand.worker ≡ worker → ((value : Option ℤ) → hand.seen ≡ Looked value → ⊥) → ¬ IsReady p state worker proposal
+unlooked p state worker place proposal hand kept there of seen ready =
+    seen ready.seen (ap (λ (h : Hand). h.seen) (only_one state.hands worker place hand ready.hand (kept.one_each worker) there of ready.held) ∙ ready.looked)
+
+-- nor is one whose box is a better point
+pub stuck : (p : ProblemData) (state : CoreState) (worker place : ℕ) (proposal : Proposal) (hand : Hand) (seen : Option ℤ) (box : Region) → IsKept p state → slice_get state.hands place ≡ Some hand → hand.worker ≡ worker → hand.seen ≡ Looked seen → box ≡ box_at p hand.path → IsRegion p box → IsBetter p box seen → ¬ IsReady p state worker proposal
+stuck p state worker place proposal hand seen box kept there of looked box_is region better ready =
+    let same : hand ≡ ready.hand = only_one state.hands worker place hand ready.hand (kept.one_each worker) there of ready.held in
+    let values : seen ≡ ready.seen = looked_same seen ready.seen (sym looked ∙ (ap (λ (h : Hand). h.seen) same ∙ ready.looked)) in
+    let boxes : box_at p ready.hand.path ≡ box = ap (λ (h : Hand). box_at p h.path) (sym same) ∙ sym box_is in
+    not_able p box seen proposal region better
+    (subst (λ (v : Option ℤ). IsClosable p box v proposal ⊎ HasMore p box) (sym values) (subst (λ (b : Region). IsClosable p b ready.seen proposal ⊎ HasMore p b) boxes ready.able))
+
+-- a node that is closed
+closable : (p : ProblemData) (box : Region) (seen : Option ℤ) (proposal : Proposal) (chosen : Mult) → IsClosed p box seen proposal chosen → IsClosable p box seen proposal
+closable p box seen proposal chosen closed = elim closed.tried [
+  | inl is ↦ inl (subst (λ (mult : Mult). Closes p box mult seen) is closed.closes)
+  | inr plainly ↦ inr (plainly.0, plainly.1, subst (λ (mult : Mult). Closes p box mult seen) plainly.2 closed.closes)
+]
+
+pub closed : (p : ProblemData) (before after : CoreState) (worker place : ℕ) (proposal : Proposal) (hand : Hand) (seen : Option ℤ) (box : Region) (chosen : Mult) → slice_get before.hands place ≡ Some hand → hand.worker ≡ worker → hand.seen ≡ Looked seen → box ≡ box_at p hand.path → IsMult p chosen → IsClosed p box seen proposal chosen → IsClosing before place chosen after → IsReady p before worker proposal × IsRecorded p before worker proposal after
+closed p before after worker place proposal hand seen box chosen there of looked box_is legal closes closing =
+    let same : closing.hand ≡ hand = some_same closing.hand hand (sym closing.moves.there ∙ there) in
+    let holds : Holds before.hands worker hand = (found_at before.hands place hand there, of) in
+    let closed_here : IsClosed p (box_at p hand.path) seen proposal chosen = subst (λ (b : Region). IsClosed p b seen proposal chosen) box_is closes in (
+      record { hand = hand; seen = seen; held = holds; looked = looked; able = inl (closable p (box_at p hand.path) seen proposal chosen closed_here) },
+      record {
+        hand = hand;
+        seen = seen;
+        held = holds;
+        looked = looked;
+        hands = rw closing.moves.hands (taken_out before.hands place hand there);
+        done = inl (record {
+          mult = chosen;
+          legal = legal;
+          closes = closed_here.closes;
+          records = closing.moves.records ∙ ap (λ (h : Hand). before.records ++ record { path = h.path; act = Closed chosen } ∷ []) same;
+          left = closing.left;
+        });
+        budget = closing.moves.budget;
+        best = closing.moves.best;
+      },
+    )
+
+-- a node that is split
+pub split : (p : ProblemData) (before after : CoreState) (worker place var at : ℕ) (proposal : Proposal) (hand : Hand) (seen : Option ℤ) (box : Region) (chosen : Mult) → slice_get before.hands place ≡ Some hand → hand.worker ≡ worker → hand.seen ≡ Looked seen → box ≡ box_at p hand.path → IsMult p proposal.mult → IsSplit p box seen proposal chosen var at → IsSplitting before place var at chosen after → IsReady p before worker proposal × IsRecorded p before worker proposal after
+split p before after worker place var at proposal hand seen box chosen there of looked box_is legal splits splitting =
+    let same : splitting.hand ≡ hand = some_same splitting.hand hand (sym splitting.moves.there ∙ there) in
+    let holds : Holds before.hands worker hand = (found_at before.hands place hand there, of) in
+    let here : IsSplit p (box_at p hand.path) seen proposal chosen var at = subst (λ (b : Region). IsSplit p b seen proposal chosen var at) box_is splits in (
+      record { hand = hand; seen = seen; held = holds; looked = looked; able = inr here.plainly.more },
+      record {
+        hand = hand;
+        seen = seen;
+        held = holds;
+        looked = looked;
+        hands = rw splitting.moves.hands (taken_out before.hands place hand there);
+        done = inr (record {
+          var = var;
+          at = at;
+          legal = legal;
+          unclosed = here.unclosed;
+          plainly = here.plainly;
+          splits = place_splits (box_at p hand.path) proposal var at here.place;
+          records = splitting.moves.records ∙ (ap (λ (h : Hand). before.records ++ record { path = h.path; act = Split var at chosen } ∷ []) same ∙ ap (λ (m : Mult). before.records ++ record { path = hand.path; act = Split var at m } ∷ []) here.chosen_is);
+          left = opened before.left after.left hand var at proposal.mult (splitting.left ∙ ap (λ (h : Hand). before.left ++ (h.path ++ upper var at ∷ []) ∷ ((h.path ++ lower var at ∷ []) ∷ [])) same);
+        });
+        budget = splitting.moves.budget;
+        best = splitting.moves.best;
+      },
+    )

@@ -1,0 +1,12 @@
+use Rattle.std.proofs.Common.{refl, sym, ap, ◌∙◌, Option}
+use Rattle.std.specs.Prelude.{ℤ}
+use Rattle.search_core.specs.Core.{in_hand}
+use Rattle.search_core.specs.declared.event.Hand.{Hand}
+use Rattle.search_core.specs.declared.event.Seen.TheVariants.{Looked}
+use Rattle.search_core.proofs.Table.{looked}
+use Rattle.search_core.proofs.state.State.look.Goals as goal
+
+pub returns : goal.returns
+returns c =
+    rw (sym c.self.view_is)
+    (looked _ _ c.args.worker c.in-Some.place c.index_mut.result.now c.best_value.result (rw c.deref.ensures.value at c.in-Some.ensures) c.index_mut.ensures.value c.best_value.ensures refl refl refl refl refl)

@@ -1,0 +1,290 @@
+//! Where a search stands, and each row of the table of its events.
+ghost use Rattle.std.specs.Prelude.{◌≡◌, ◌≢◌, [], ◌∷◌, ◌++◌, ◌+◌, ◌<◌, ◌≤◌, ◌↔◌, IsTrue, length, IfOk, OnErr, MatchOption, MatchBool, List, Contains, slice_get, Some, remove};
+ghost use Rattle.lin_bound.specs.Problem.{IsFeasible};
+ghost use Rattle.lin_bound.specs.Box.{box_at};
+ghost use Rattle.lin_bound.specs.Bound.{IsMult};
+ghost use Rattle.lin_bound.specs.declared.path.Branch.{Branch};
+ghost use Rattle.search_core.specs.declared.event.Hand.{Hand as HandData};
+ghost use Rattle.cert_tree.specs.Records.{lower, upper};
+ghost use Rattle.search_core.specs.Nodes.{IsAbove};
+ghost use Rattle.search_core.specs.Core.{begun, Holds, IsBusy, IsHeldAt, IsReady, Outcome, IsTaken, IsLooked, IsOffered, IsRecorded, IsDropped};
+ghost use Rattle.search_core.specs.Kept.{IsKept};
+ghost use Rattle.search_core.specs.Moves.{IsClosing, IsSplitting};
+
+use crate::event::{Hand, Seen, Stepped};
+use crate::node::{Handled, Proposal, Work, handle_node};
+use crate::solved::{Found, best_value};
+use cert_tree::{Act, Record};
+use lin_bound::{Branch, Mult, Path, Point, Problem, box_of};
+use sqlite_items::Items;
+use std::alloc::{AllocError, Global};
+use std::marker::Model;
+
+/// The open paths, the nodes in hand, the best point offered, what was recorded, and how many nodes may be.
+#[derive(Debug, Drop)]
+pub struct State {
+    budget: u32,
+    left: Vec<Path>,
+    hands: Vec<Hand>,
+    best: Option<Found>,
+    records: Vec<Record>,
+}
+
+impl Model for State {
+    ghost use Rattle.search_core.specs.Core.{CoreState};
+
+    ghost Value = { CoreState };
+
+    ghost view = { λ state. record { budget = state.budget; left = state.left.items; hands = state.hands.items; best = state.best; records = state.records.items } };
+}
+
+/// Where a path stands among the open ones: the last place, since a search goes on where it last was.
+fn place_of_path(left: &[Path], path: &Path) -> Option<usize>
+    ensures { MatchOption result (¬ Contains left.now path.now) (λ place. slice_get left.now place ≡ Some path.now) }
+{
+    let mut place = left.len();
+    while place > 0 {
+        place -= 1;
+        if left[place].is_same(path) {
+            return Some(place);
+        }
+    }
+    None
+}
+
+/// Where the node of a worker stands among those in hand.
+fn place_of_hand(hands: &[Hand], worker: u32) -> Option<usize>
+    ensures { MatchOption result (¬ IsBusy hands.now worker) (λ place. IsHeldAt hands.now worker place) }
+{
+    for place in 0..hands.len() {
+        if hands[place].worker == worker {
+            return Some(place);
+        }
+    }
+    None
+}
+
+/// Whether the value is above the best so far.
+fn is_above(value: i64, best: Option<i64>) -> bool
+    ensures { IsTrue result ↔ IsAbove value best }
+{
+    match best {
+        Some(best) => value > best,
+        None => true,
+    }
+}
+
+impl State {
+    /// A search with these records and open paths, and no node in hand.
+    pub fn new(
+        alloc: Global,
+        budget: u32,
+        records: Vec<Record>,
+        left: Vec<Path>,
+        best: Option<Found>,
+    ) -> State
+        ensures { result ≡ record { budget = budget; left = left.items; hands = []; best = best; records = records.items } }
+    {
+        State {
+            budget,
+            left,
+            hands: Vec::new(alloc),
+            best,
+            records,
+        }
+    }
+
+    /// Whether as many nodes were begun as may be.
+    pub fn is_spent(&self) -> bool
+        ensures { IsTrue result ↔ (self.now.budget ≤ begun self.now) }
+    {
+        let room = (self.budget as usize).saturating_sub(self.records.len());
+        room <= self.hands.len()
+    }
+
+    /// Whether a path is open and a node may be begun.
+    pub fn has_next(&self) -> bool
+        ensures { MatchBool result ((self.now.left ≢ []) × (begun self.now < self.now.budget)) (self.now.left ≢ [] → self.now.budget ≤ begun self.now) }
+    {
+        !self.left.is_empty() && !self.is_spent()
+    }
+
+    /// What was recorded, the open paths, and the best point offered.
+    pub fn into_parts(self) -> (Vec<Record>, Vec<Path>, Option<Found>)
+        ensures records { result.0.items ≡ self.records }
+        ensures left { result.1.items ≡ self.left }
+        ensures best { result.2 ≡ self.best }
+    {
+        (self.records, self.left, self.best)
+    }
+
+    /// A worker takes the path that was opened last.
+    pub fn take_last(&mut self, worker: u32) -> Result<(), AllocError>
+        requires { self.old.left ≢ [] }
+        ensures ok { IfOk result (λ _. (path : List Branch) × IsTaken self.old worker path self.new) }
+        ensures err { OnErr result (self.new ≡ self.old) }
+    {
+        self.hands.reserve(1)?;
+        let Some(path) = self.left.pop() else {
+            return Ok(());
+        };
+        let seen = Seen::NotLooked;
+        self.hands.push_reserved(Hand { worker, path, seen });
+        Ok(())
+    }
+
+    /// The low ends of the box of a worker's node.
+    pub fn low_point(
+        &self,
+        alloc: Global,
+        problem: &Problem,
+        worker: u32,
+    ) -> Result<Point, AllocError>
+        requires kept { IsKept problem.now self.now }
+        requires busy { IsBusy self.now.hands worker }
+        ensures { IfOk result (λ point. (hand : HandData) × Holds self.now.hands worker hand × (point ≡ (box_at problem.now hand.path).low)) }
+    {
+        let Some(place) = place_of_hand(&self.hands, worker) else {
+            return Ok(Point::new(Items::new(alloc)));
+        };
+        let region = box_of(alloc, problem, &self.hands[place].path)?;
+        Ok(Point::new(region.low))
+    }
+
+    /// A worker takes an open path.
+    pub fn take(&mut self, worker: u32, path: Path) -> Result<Stepped, AllocError>
+        ensures ok { IfOk result (λ outcome. Outcome (Contains self.old.left path × (¬ IsBusy self.old.hands worker) × (begun self.old < self.old.budget)) (IsTaken self.old worker path self.new) (self.new ≡ self.old) outcome) }
+        ensures err { OnErr result (self.new ≡ self.old) }
+    {
+        if self.is_spent() {
+            return Ok(Stepped::NotEnabled);
+        }
+        let None = place_of_hand(&self.hands, worker) else {
+            return Ok(Stepped::NotEnabled);
+        };
+        let Some(place) = place_of_path(&self.left, &path) else {
+            return Ok(Stepped::NotEnabled);
+        };
+        let seen = Seen::NotLooked;
+        self.hands.push(Hand { worker, path, seen })?;
+        self.left.remove(place);
+        Ok(Stepped::Done)
+    }
+
+    /// A worker looks at the best value for its node.
+    pub fn look(&mut self, worker: u32) -> Stepped
+        ensures { Outcome (IsBusy self.old.hands worker) (IsLooked self.old worker self.new) (self.new ≡ self.old) result }
+    {
+        let Some(place) = place_of_hand(&self.hands, worker) else {
+            return Stepped::NotEnabled;
+        };
+        self.hands[place].seen = Seen::Looked(best_value(&self.best));
+        Stepped::Done
+    }
+
+    /// A point is offered.
+    pub fn offer(&mut self, problem: &Problem, point: Point) -> Stepped
+        ensures { Outcome (IsFeasible problem.now point) (IsOffered problem.now self.old point self.new) (self.new ≡ self.old) result }
+    {
+        if !problem.is_feasible(&point) {
+            return Stepped::NotEnabled;
+        }
+        let value = problem.cost_of(&point);
+        if is_above(value, best_value(&self.best)) {
+            self.best = Some(Found { value, point });
+        }
+        Stepped::Done
+    }
+
+    /// A worker gives its node back.
+    pub fn give_back(&mut self, worker: u32) -> Result<Stepped, AllocError>
+        ensures ok { IfOk result (λ outcome. Outcome (IsBusy self.old.hands worker) (IsDropped self.old worker self.new) (self.new ≡ self.old) outcome) }
+        ensures err { OnErr result (self.new ≡ self.old) }
+    {
+        let Some(place) = place_of_hand(&self.hands, worker) else {
+            return Ok(Stepped::NotEnabled);
+        };
+        self.left.reserve(1)?;
+        let hand = self.hands.remove(place);
+        self.left.push_reserved(hand.path);
+        Ok(Stepped::Done)
+    }
+
+    /// Records that the multipliers close the box of the node in hand at a place.
+    fn close(&mut self, place: usize, mult: Mult) -> Result<(), AllocError>
+        requires { place < length self.old.hands }
+        ensures ok { IfOk result (λ _. IsClosing self.old place mult self.new) }
+        ensures err { OnErr result (self.new ≡ self.old) }
+    {
+        self.records.reserve(1)?;
+        let Hand { path, .. } = self.hands.remove(place);
+        let act = Act::Closed(mult);
+        self.records.push_reserved(Record { path, act });
+        Ok(())
+    }
+
+    /// Records that the box of the node in hand at a place is split; both children are open, the lower one the last.
+    fn split(
+        &mut self,
+        alloc: Global,
+        place: usize,
+        var: u32,
+        at: u64,
+        mult: Mult,
+    ) -> Result<(), AllocError>
+        requires { place < length self.old.hands }
+        ensures ok { IfOk result (λ _. IsSplitting self.old place var at mult self.new) }
+        ensures err { OnErr result (self.new ≡ self.old) }
+    {
+        let (lower, upper) = halves(alloc, &self.hands[place].path, var, at)?;
+        self.left.reserve(2)?;
+        self.records.reserve(1)?;
+        let Hand { path, .. } = self.hands.remove(place);
+        self.left.push_reserved(upper);
+        self.left.push_reserved(lower);
+        let act = Act::Split { var, at, mult };
+        self.records.push_reserved(Record { path, act });
+        Ok(())
+    }
+
+    /// A worker closes or splits the box of its node.
+    pub fn handle(
+        &mut self,
+        alloc: Global,
+        problem: &Problem,
+        worker: u32,
+        proposal: &Proposal,
+    ) -> Result<Stepped, AllocError>
+        requires kept { IsKept problem.now self.old }
+        requires proposal { IsMult problem.now proposal.now.mult }
+        ensures ok { IfOk result (λ outcome. Outcome (IsReady problem.now self.old worker proposal.now) (IsRecorded problem.now self.old worker proposal.now self.new) (self.new ≡ self.old) outcome) }
+        ensures err { OnErr result (self.new ≡ self.old) }
+    {
+        let Some(place) = place_of_hand(&self.hands, worker) else {
+            return Ok(Stepped::NotEnabled);
+        };
+        let hand = &self.hands[place];
+        let Seen::Looked(seen) = hand.seen else {
+            return Ok(Stepped::NotEnabled);
+        };
+        let region = box_of(alloc, problem, &hand.path)?;
+        let mut work = Work::new(alloc, problem)?;
+        match handle_node(problem, &region, seen, proposal, &mut work) {
+            Handled::Better => return Ok(Stepped::NotEnabled),
+            Handled::Closed => self.close(place, work.mult)?,
+            Handled::Split { var, at } => self.split(alloc, place, var, at, work.mult)?,
+        }
+        Ok(Stepped::Done)
+    }
+}
+
+/// The paths to the two halves of the box of a path, the lower half first.
+fn halves(alloc: Global, path: &Path, var: u32, at: u64) -> Result<(Path, Path), AllocError>
+    ensures lower { IfOk result (λ both. both.0 ≡ path.now ++ lower var at ∷ []) }
+    ensures upper { IfOk result (λ both. both.1 ≡ path.now ++ upper var at ∷ []) }
+{
+    let (low, high) = (false, true);
+    let lower = path.child(alloc, Branch { var, at, high: low })?;
+    let upper = path.child(alloc, Branch { var, at, high })?;
+    Ok((lower, upper))
+}
