@@ -197,6 +197,36 @@ fn last_branch(alloc: Global) -> Result<(usize, Branch), AllocError> {
     Ok((path.len(), path.branch(0)))
 }
 
+/// The path of these variables, each at most 1 or at least 2.
+fn path_of(alloc: Global, branches: &[(u32, bool)]) -> Result<Path, AllocError> {
+    let mut path = Path::new(alloc);
+    for (var, high) in branches {
+        let branch = Branch {
+            var: *var,
+            at: 1,
+            high: *high,
+        };
+        path = path.child(alloc, branch)?;
+    }
+    Ok(path)
+}
+
+#[test]
+fn paths_compared(rt: HostRuntime) -> Result<(), Fail> {
+    let path = path_of(rt.alloc(), &[(0, false), (1, true)])?;
+    let cases: [(&[(u32, bool)], bool); 5] = [
+        (&[(0, false), (1, true)], true),
+        (&[(0, false), (1, false)], false),
+        (&[(1, false), (1, true)], false),
+        (&[(0, false)], false),
+        (&[(0, false), (1, true), (2, true)], false),
+    ];
+    for (branches, same) in cases {
+        assert_eq!(rt; path.is_same(&path_of(rt.alloc(), branches)?), same);
+    }
+    Ok(())
+}
+
 #[test]
 fn what_a_path_tells(rt: HostRuntime) -> Result<(), Fail> {
     let (length, last) = last_branch(rt.alloc())?;

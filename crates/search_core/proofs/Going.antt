@@ -1,14 +1,14 @@
 -- How one worker's calls make events.
 use Rattle.std.proofs.Common.{◌≡◌, ℕ, zero, suc, ◌+◌, ◌<◌, ◌≤◌, List, [], ◌∷◌, ◌++◌, length, replicate, refl, sym, ap, subst, ◌∙◌, arith, inl, inr, IsPermutation, Contains}
-use Rattle.std.specs.Prelude.{ℤ, Option, None, Some, slice_get, slice_index_or, ◌⊎◌}
+use Rattle.std.specs.Prelude.{ℤ, Option, Some, slice_get, slice_index_or, ◌⊎◌}
 use Rattle.std.proofs.lemmas.Int.{ints}
 use Rattle.std.proofs.lemmas.List.{get_or-replicate, length_push, length-replicate}
 use Rattle.std.proofs.lemmas.List.Sorted.{IsPermutation-sym, Contains-permutation, length_permutation}
 use Rattle.std.proofs.lemmas.Option.{slice_get-get_or}
 use Rattle.lin_bound.specs.Sums.{nat_at}
 use Rattle.lin_bound.specs.Problem.{ProblemData, variables, row_count, cost_at, IsLegal, IsFeasible}
-use Rattle.lin_bound.specs.Box.{whole_box, half, cut, box_at, AllSplit, IsPath, IsRegion, IsOnePoint}
-use Rattle.lin_bound.specs.Bound.{IsMult, Closes, plain}
+use Rattle.lin_bound.specs.Box.{whole_box, half, cut, box_at, AllSplit, IsRegion, IsOnePoint}
+use Rattle.lin_bound.specs.Bound.{Closes, plain}
 use Rattle.lin_bound.specs.Laws.{NotAbove}
 use Rattle.lin_bound.specs.declared.region.Region.{Region}
 use Rattle.lin_bound.specs.declared.path.Branch.{Branch}
@@ -18,7 +18,7 @@ use Rattle.cert_tree.specs.declared.records.Record.{Record}
 use Rattle.search_core.specs.Boxes.{HasNoRoom, IsOpenBelow}
 use Rattle.search_core.specs.Search.{value_in}
 use Rattle.search_core.specs.Nodes.{IsBetter}
-use Rattle.search_core.specs.Core.{CoreState, begun, Holds, IsBusy, IsClosable, HasMore, IsReady, IsEnabled, Outcome, in_hand, IsTaken, IsLooked, IsBestOf, IsOffered, IsRecorded, Runs}
+use Rattle.search_core.specs.Core.{CoreState, begun, Holds, IsBusy, IsClosable, HasMore, IsReady, Outcome, in_hand, IsTaken, IsLooked, IsBestOf, IsOffered, IsRecorded, Runs}
 use Rattle.search_core.specs.Kept.{IsKept}
 use Rattle.search_core.specs.Solo.{Reaches, IsAlone, IsBegun, IsAdvanced}
 use Rattle.search_core.specs.declared.solved.Found.{Found}

@@ -1,13 +1,13 @@
 -- When the node in hand is handled, and what that comes to.
-use Rattle.std.proofs.Common.{◌≡◌, ℕ, zero, suc, Bool, true, if◌then◌else◌, ◌+◌, ◌<◌, ◌≤◌, List, [], ◌∷◌, ◌++◌, map, length, remove, refl, sym, ap, subst, ◌∙◌, arith, inl, inr, IsPermutation, Contains, All, Some, sum_by}
+use Rattle.std.proofs.Common.{◌≡◌, ℕ, zero, suc, Bool, true, if◌then◌else◌, ◌+◌, ◌≤◌, List, [], ◌∷◌, ◌++◌, map, remove, sym, ap, subst, ◌∙◌, arith, inl, inr, IsPermutation, Contains, Some}
 use Rattle.std.specs.Prelude.{◌==◌, slice_get, slice_index_or, ℤ, Option, ◌⊎◌}
 use Rattle.std.proofs.lemmas.Cmp.{nat_eq_equiv}
 use Rattle.std.proofs.lemmas.List.{length-map, get_or-map}
 use Rattle.std.proofs.lemmas.List.Elements.{All-contains, All-weaker, Contains-append_right}
 use Rattle.std.proofs.lemmas.List.Sums.{sum_by-cons}
 use Rattle.std.proofs.lemmas.List.Sorted.{Contains-permutation, sum_by-IsPermutation, IsPermutation-append_comm, IsPermutation-append_left, IsPermutation-trans, IsPermutation-reverse}
-use Rattle.std.proofs.lemmas.Option.{slice_get_within, get_or_from_slice_get, slice_get-get_or, slice_get_read}
-use Rattle.lin_bound.specs.Problem.{ProblemData, row_count}
+use Rattle.std.proofs.lemmas.Option.{slice_get_within, get_or_from_slice_get, slice_get-get_or}
+use Rattle.lin_bound.specs.Problem.{ProblemData}
 use Rattle.lin_bound.specs.Box.{box_at, IsPath, IsRegion}
 use Rattle.lin_bound.specs.Bound.{IsMult, Closes, plain}
 use Rattle.lin_bound.specs.declared.region.Region.{Region}
@@ -19,13 +19,12 @@ use Rattle.cert_tree.specs.Records.{lower, upper, children_of}
 use Rattle.cert_tree.specs.Laws.{IsPlainlyRight}
 use Rattle.cert_tree.proofs.Paths.{Divides, divides_plainly, left_paths}
 use Rattle.search_core.specs.Search.{value_in}
-use Rattle.search_core.specs.Nodes.{IsTried, IsClosed, IsSplit, IsBetter}
-use Rattle.search_core.specs.Core.{CoreState, Holds, IsBusy, IsHeldAt, IsClosable, HasMore, IsReady, IsRecorded, IsClosedBy, IsSplitBy}
-use Rattle.search_core.specs.Moves.{Moves, IsClosing, IsSplitting}
+use Rattle.search_core.specs.Nodes.{IsClosed, IsSplit, IsBetter}
+use Rattle.search_core.specs.Core.{CoreState, Holds, IsHeldAt, IsClosable, HasMore, IsReady, IsRecorded}
+use Rattle.search_core.specs.Moves.{IsClosing, IsSplitting}
 use Rattle.search_core.specs.Kept.{path_held, one_of, nodes_of, IsKept}
 use Rattle.search_core.specs.declared.event.Hand.{Hand}
-use Rattle.search_core.specs.declared.event.Seen.{Seen}
-use Rattle.search_core.specs.declared.event.Seen.TheVariants.{NotLooked, Looked}
+use Rattle.search_core.specs.declared.event.Seen.TheVariants.{Looked}
 use Rattle.search_core.specs.declared.node.Proposal.{Proposal}
 use Rattle.search_core.proofs.Nodes.{closed_not_better, place_splits}
 use Rattle.search_core.proofs.Table.{found_at, taken_out}

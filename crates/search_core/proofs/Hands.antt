@@ -1,11 +1,9 @@
 -- The paths of open nodes and of nodes in hand, in any order, and how many nodes a worker has.
-use Rattle.std.proofs.Common.{◌≡◌, ℕ, zero, suc, ◌+◌, ◌<◌, ◌≤◌, Bool, true, false, if◌then◌else◌, List, [], ◌∷◌, ◌++◌, map, length, refl, sym, ap, subst, ◌∙◌, arith, inl, inr, IsPermutation, Contains, All, sum_by}
-use Rattle.std.specs.Prelude.{◌==◌, ℤ, Option, ◌⊎◌}
+use Rattle.std.proofs.Common.{◌≡◌, ℕ, suc, ◌+◌, ◌≤◌, Bool, if◌then◌else◌, List, [], ◌∷◌, ◌++◌, map, refl, sym, ap, subst, arith, inl, inr, IsPermutation, All}
+use Rattle.std.specs.Prelude.{◌==◌, ◌⊎◌}
 use Rattle.std.proofs.lemmas.Bool.{cases_Bool, eqb-true}
-use Rattle.std.proofs.lemmas.List.{append-nil}
-use Rattle.std.proofs.lemmas.List.Elements.{All-cons}
 use Rattle.std.proofs.lemmas.List.Sums.{sum_by-cons}
-use Rattle.std.proofs.lemmas.List.Sorted.{IsPermutation-refl, IsPermutation-sym, IsPermutation-trans, IsPermutation-append_left, IsPermutation-append_right, IsPermutation-append_comm, IsPermutation-middle, IsPermutation-map, All-permutation, sum_by-IsPermutation, length_permutation}
+use Rattle.std.proofs.lemmas.List.Sorted.{IsPermutation-sym, IsPermutation-trans, IsPermutation-append_left, IsPermutation-append_right, IsPermutation-middle, IsPermutation-map, sum_by-IsPermutation}
 use Rattle.lin_bound.specs.declared.path.Branch.{Branch}
 use Rattle.cert_tree.specs.declared.records.Act.{Act}
 use Rattle.cert_tree.specs.declared.records.Record.{Record}
@@ -14,7 +12,6 @@ use Rattle.cert_tree.proofs.Balance.{balanced_more}
 use Rattle.search_core.specs.Core.{IsBusy, Replaced}
 use Rattle.search_core.specs.Kept.{path_held, one_of, nodes_of}
 use Rattle.search_core.specs.declared.event.Hand.{Hand}
-use Rattle.search_core.proofs.Handling.{its_own}
 
 -- the paths of the open nodes and of those in hand
 abbrev pub to_do : List (List Branch) → List Hand → List (List Branch)

@@ -1,5 +1,5 @@
 -- What a list of events tells of the best point and of the splits.
-use Rattle.std.proofs.Common.{◌≡◌, ℕ, zero, suc, ◌<◌, List, [], ◌∷◌, ◌++◌, length, refl, sym, ap, subst, ◌∙◌, arith, inl, inr, Contains}
+use Rattle.std.proofs.Common.{◌≡◌, ℕ, zero, suc, List, [], ◌∷◌, refl, sym, ap, subst, ◌∙◌, arith, inl, inr, Contains}
 use Rattle.std.specs.Prelude.{ℤ, Option, None, Some, ◌⊎◌}
 use Rattle.std.proofs.lemmas.Int.{ints}
 use Rattle.std.proofs.lemmas.List.Elements.{Contains-push_cases}
@@ -8,14 +8,13 @@ use Rattle.lin_bound.specs.Box.{box_at}
 use Rattle.lin_bound.specs.Laws.{NotAbove}
 use Rattle.lin_bound.specs.declared.path.Branch.{Branch}
 use Rattle.lin_bound.specs.declared.mult.Mult.{Mult}
-use Rattle.cert_tree.specs.declared.records.Act.{Act}
 use Rattle.cert_tree.specs.declared.records.Act.TheVariants.{Closed, Split}
 use Rattle.cert_tree.specs.declared.records.Record.{Record}
 use Rattle.cert_tree.specs.Values.{IsAtMost}
 use Rattle.cert_tree.specs.Partial.{PlainlyOpen}
 use Rattle.search_core.specs.Search.{value_in}
 use Rattle.search_core.specs.Core.{CoreState, IsRecorded, IsBestOf, Performs, IsEnabled, Steps, Runs}
-use Rattle.search_core.specs.Runs.{IsOfferedIn, IsBestOffered, BestIsOffered, WasOpen, SplitsWereOpen}
+use Rattle.search_core.specs.Runs.{BestIsOffered, WasOpen, SplitsWereOpen}
 use Rattle.search_core.specs.declared.solved.Found.{Found}
 use Rattle.search_core.specs.declared.node.Proposal.{Proposal}
 use Rattle.search_core.specs.declared.event.Hand.{Hand}

@@ -1,19 +1,17 @@
 -- Each event keeps what holds of a search.
-use Rattle.std.proofs.Common.{◌≡◌, ℕ, suc, ◌+◌, ◌<◌, ◌≤◌, List, [], ◌∷◌, ◌++◌, map, length, refl, sym, ap, subst, ◌∙◌, arith, inl, inr, IsPermutation, Contains, All, sum_by}
-use Rattle.std.specs.Prelude.{ℤ, Option, None, Some, Result, Ok, Err, IfOk, OnErr, ◌⊎◌}
+use Rattle.std.proofs.Common.{◌≡◌, ℕ, ◌<◌, List, [], ◌∷◌, ◌++◌, map, length, refl, sym, ap, subst, arith, inl, inr, IsPermutation, Contains, All}
+use Rattle.std.specs.Prelude.{ℤ, Option, None, Some, Result, Ok, Err, IfOk, OnErr}
 use Rattle.std.proofs.lemmas.Int.{ints}
 use Rattle.std.proofs.lemmas.List.{append-nil, append_assoc, length_push}
 use Rattle.std.proofs.lemmas.List.Elements.{All-cons, All-contains, All-push, All-weaker}
 use Rattle.std.proofs.lemmas.List.Sorted.{IsPermutation-refl, IsPermutation-sym, IsPermutation-trans, IsPermutation-append_left, IsPermutation-append_comm, All-permutation, length_permutation}
 use Rattle.lin_bound.specs.Problem.{ProblemData, cost_at, IsFeasible}
 use Rattle.lin_bound.specs.Box.{box_at}
-use Rattle.lin_bound.specs.Bound.{IsMult}
-use Rattle.lin_bound.specs.Laws.{NotAbove}
 use Rattle.lin_bound.specs.declared.path.Branch.{Branch}
 use Rattle.cert_tree.specs.declared.records.Act.{Act}
 use Rattle.cert_tree.specs.declared.records.Act.TheVariants.{Closed, Split}
 use Rattle.cert_tree.specs.declared.records.Record.{Record}
-use Rattle.cert_tree.specs.Records.{children_of, IsBalanced}
+use Rattle.cert_tree.specs.Records.{children_of}
 use Rattle.cert_tree.specs.Laws.{IsPlainlyRight}
 use Rattle.cert_tree.specs.Multipliers.{ActIsLegal}
 use Rattle.cert_tree.specs.Values.{IsAtMost}
@@ -21,7 +19,7 @@ use Rattle.cert_tree.proofs.Values.{closes_more, plainly_open_none, plainly_righ
 use Rattle.search_core.specs.Search.{IsFound, value_in}
 use Rattle.search_core.specs.Nodes.{IsAbove}
 use Rattle.search_core.specs.Core.{CoreState, begun, IsBusy, in_hand, IsEnabled, IsTaken, IsLooked, IsBestOf, IsOffered, IsClosedBy, IsSplitBy, IsRecorded, IsDropped, Performs, Steps, Runs}
-use Rattle.search_core.specs.Kept.{path_held, one_of, nodes_of, SeenBelow, IsKept}
+use Rattle.search_core.specs.Kept.{path_held, one_of, SeenBelow, IsKept}
 use Rattle.search_core.specs.declared.solved.Found.{Found}
 use Rattle.search_core.specs.declared.node.Proposal.{Proposal}
 use Rattle.search_core.specs.declared.event.Hand.{Hand}
@@ -31,7 +29,7 @@ use Rattle.search_core.specs.declared.event.Event.{Event}
 use Rattle.search_core.specs.declared.event.Event.TheVariants.{Take, Look, Handle, Offer, Drop}
 use Rattle.search_core.specs.declared.event.Stepped.{Stepped}
 use Rattle.search_core.specs.declared.event.Stepped.TheVariants.{Done, NotEnabled}
-use Rattle.search_core.proofs.Hands.{to_do, rebalance, hand_first, moves_over, same_path, recorded, one_more, still_one, all_rest}
+use Rattle.search_core.proofs.Hands.{to_do, rebalance, moves_over, same_path, recorded, one_more, still_one, all_rest}
 
 pub at_most_itself : (value : Option ℤ) → IsAtMost value value
 at_most_itself None = tt

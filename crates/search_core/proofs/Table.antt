@@ -1,5 +1,5 @@
 -- What the lists of a search come to, in the words of the table of events.
-use Rattle.std.proofs.Common.{◌≡◌, ℕ, suc, ◌+◌, ◌<◌, ◌≤◌, List, [], ◌∷◌, ◌++◌, length, take, drop, get_or, remove, refl, sym, ap, subst, ◌∙◌, arith, inl, inr, below_more, IsPermutation, Contains, All, Some}
+use Rattle.std.proofs.Common.{◌≡◌, ℕ, suc, ◌+◌, ◌<◌, ◌≤◌, List, [], ◌∷◌, ◌++◌, length, take, drop, remove, refl, sym, ap, subst, ◌∙◌, arith, below_more, IsPermutation, Contains, Some}
 use Rattle.std.specs.Prelude.{slice_get, slice_index_or, slice_set, ℤ, Option}
 use Rattle.std.proofs.lemmas.List.{set_split, set-get_or, append_assoc}
 use Rattle.std.proofs.lemmas.List.Sorted.{IsPermutation-remove, IsPermutation-middle, IsPermutation-to_front}
@@ -7,10 +7,9 @@ use Rattle.std.proofs.lemmas.Option.{slice_get_within, get_or_from_slice_get, sl
 use Rattle.lin_bound.specs.declared.path.Branch.{Branch}
 use Rattle.cert_tree.specs.Records.{lower, upper}
 use Rattle.search_core.specs.declared.event.Hand.{Hand}
-use Rattle.search_core.specs.declared.event.Seen.{Seen}
 use Rattle.search_core.specs.declared.event.Seen.TheVariants.{NotLooked, Looked}
 use Rattle.search_core.specs.Search.{value_in}
-use Rattle.search_core.specs.Core.{CoreState, begun, Holds, IsBusy, IsHeldAt, in_hand, Replaced, IsTaken, IsLooked, IsDropped}
+use Rattle.search_core.specs.Core.{CoreState, Holds, IsBusy, IsHeldAt, in_hand, Replaced, IsTaken, IsLooked, IsDropped}
 
 -- what stands at a place is among them, and the others are what is left without it
 pub found_at : {X : Type 0} (xs : List X) (place : ℕ) (x : X) → slice_get xs place ≡ Some x → Contains xs x

@@ -1,5 +1,5 @@
 -- The state of a search, its events, and what each of them does. Lists of paths and of nodes in hand are in any order.
-use Rattle.std.specs.Prelude.{◌≡◌, ℕ, ◌+◌, ◌<◌, ◌≤◌, List, ◌∷◌, ◌++◌, [], length, slice_get, Contains, IsPermutation, ℤ, Option, None, Some, ◌⊎◌}
+use Rattle.std.specs.Prelude.{◌≡◌, ℕ, ◌+◌, ◌<◌, ◌≤◌, List, ◌∷◌, ◌++◌, [], length, slice_get, Contains, IsPermutation, ℤ, Option, Some, ◌⊎◌}
 use Rattle.lin_bound.specs.Sums.{nat_at}
 use Rattle.lin_bound.specs.Problem.{ProblemData, variables, row_count, cost_at, IsFeasible}
 use Rattle.lin_bound.specs.Box.{box_at, Splits}

@@ -1,5 +1,5 @@
 -- What holds of a search after any list of events.
-use Rattle.std.specs.Prelude.{◌≡◌, ℕ, ◌≤◌, ◌==◌, if◌then◌else◌, List, ◌++◌, map, All, sum_by, ℤ, Option}
+use Rattle.std.specs.Prelude.{ℕ, ◌≤◌, ◌==◌, if◌then◌else◌, List, ◌++◌, map, All, sum_by, ℤ, Option}
 use Rattle.lin_bound.specs.Problem.{ProblemData}
 use Rattle.lin_bound.specs.declared.path.Branch.{Branch}
 use Rattle.cert_tree.specs.declared.records.Record.{Record}

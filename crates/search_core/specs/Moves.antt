@@ -1,6 +1,5 @@
 -- How the lists of a search change where a node in hand is recorded.
 use Rattle.std.specs.Prelude.{◌≡◌, ℕ, ◌++◌, ◌∷◌, [], slice_get, Some, remove}
-use Rattle.lin_bound.specs.declared.path.Branch.{Branch}
 use Rattle.lin_bound.specs.declared.mult.Mult.{Mult}
 use Rattle.cert_tree.specs.declared.records.Act.{Act}
 use Rattle.cert_tree.specs.declared.records.Act.TheVariants.{Closed, Split}

@@ -1,6 +1,5 @@
 -- What a search finds.
-use Rattle.std.specs.Prelude.{◌≡◌, ℕ, zero, suc, ◌+◌, ◌*◌, List, ℤ, Option, None, Some}
-use Rattle.lin_bound.specs.Sums.{nat_at}
+use Rattle.std.specs.Prelude.{◌≡◌, ℤ, Option, None, Some}
 use Rattle.lin_bound.specs.Problem.{ProblemData, cost_at, IsFeasible}
 use Rattle.search_core.specs.declared.solved.Found.{Found}
 

@@ -1,7 +1,6 @@
 -- How one worker goes on, event by event.
-use Rattle.std.specs.Prelude.{◌≡◌, ℕ, ◌+◌, List, [], ◌∷◌, length, IsPermutation, Option}
+use Rattle.std.specs.Prelude.{◌≡◌, ◌+◌, List, [], ◌∷◌, length, IsPermutation}
 use Rattle.lin_bound.specs.Problem.{ProblemData}
-use Rattle.lin_bound.specs.declared.path.Branch.{Branch}
 use Rattle.search_core.specs.Search.{value_in}
 use Rattle.search_core.specs.Core.{CoreState, Runs}
 use Rattle.search_core.specs.declared.event.Event.{Event}

@@ -17,3 +17,6 @@ pub use machine::Core;
 pub use node::{Handled, Proposal, Work, handle_node, split_place};
 pub use solved::{Found, Solved};
 pub use solver::{SoloSolver, Solver, go_on};
+
+#[cfg(test)]
+mod tests;

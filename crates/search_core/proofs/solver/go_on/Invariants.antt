@@ -1,5 +1,4 @@
 use Rattle.std.proofs.Common.{◌-◌, length}
-use Rattle.lin_bound.specs.Bound.{IsMult}
 use Rattle.search_core.proofs.Ending.{IsGoing}
 use Rattle.search_core.proofs.solver.go_on.Given as goal
 

@@ -1,4 +1,4 @@
-use Rattle.std.proofs.Common.{refl, sym, ap, ◌∙◌, inl, inr}
+use Rattle.std.proofs.Common.{refl, sym}
 use Rattle.std.proofs.lemmas.Option.{slice_get_within}
 use Rattle.search_core.proofs.Handling.{at_hand, hand_path, unlooked, stuck, closed, split}
 use Rattle.search_core.proofs.state.State.handle.Goals as goal

@@ -1,8 +1,4 @@
-use Rattle.std.proofs.Common.{refl, sym, ap, ◌∙◌, Option}
-use Rattle.std.specs.Prelude.{ℤ}
-use Rattle.search_core.specs.Core.{in_hand}
-use Rattle.search_core.specs.declared.event.Hand.{Hand}
-use Rattle.search_core.specs.declared.event.Seen.TheVariants.{Looked}
+use Rattle.std.proofs.Common.{refl, sym}
 use Rattle.search_core.proofs.Table.{looked}
 use Rattle.search_core.proofs.state.State.look.Goals as goal
 

@@ -1,4 +1,4 @@
-use Rattle.std.proofs.Common.{refl, sym, ap, ◌∙◌}
+use Rattle.std.proofs.Common.{sym, ap, ◌∙◌}
 use Rattle.lin_bound.specs.declared.region.Region.{Region}
 use Rattle.search_core.proofs.Table.{found_at}
 use Rattle.search_core.proofs.Handling.{at_hand, hand_path}
