@@ -1,3 +1,1 @@
-pub mod TextLemmas
-pub mod SumLemmas
 pub mod AnswerLemmas

@@ -5,15 +5,13 @@ ghost use Rattle.formal_grammar.specs.Parse.{Gives};
 ghost use Rattle.paql_lexer.specs.declared.vocabulary.Kind.TheVariants as kinds;
 ghost use Rattle.paql_grammar.specs.Lexemes.{is};
 ghost use Rattle.paql_grammar.specs.StatementReading as read;
-ghost use Rattle.paql_parser.specs.Sources.{left};
+ghost use Rattle.paql_predicates.specs.Sources.{left};
 
-use crate::literals::lit;
-use crate::predicates::joined;
-use crate::source::{Source, name, sees, take};
 use formal_grammar::ReadError;
 use paql_ast::predicates::Pred;
 use paql_ast::statements::Statement;
 use paql_lexer::Kind;
+use paql_predicates::{Source, joined, lit, name, sees, take};
 use schema_types::{Lit, Text};
 use sqlite_items::Items;
 use std::alloc::Global;

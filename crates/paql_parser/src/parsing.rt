@@ -5,11 +5,11 @@ ghost use Rattle.paql_grammar.specs.Texts.{Spells, OneTree, place_of};
 ghost use Rattle.paql_parser.specs.Answers.{Answers, AnswersTokens};
 
 use crate::fault::ParseFault;
-use crate::source::Source;
 use crate::statements::whole;
 use formal_grammar::{ReadError, Why};
 use paql_ast::statements::Statement;
 use paql_lexer::{LexFault, Token, tokens};
+use paql_predicates::Source;
 use std::alloc::Global;
 
 /// The statement that a text spells, or nothing where the text has no token. At most 64 brackets and NOTs of

@@ -2,17 +2,19 @@
 ghost use Rattle.std.specs.Prelude.{◌≡◌};
 ghost use Rattle.formal_grammar.specs.Parse.{Gives, all_of};
 ghost use Rattle.paql_grammar.specs.StatementReading as read;
-ghost use Rattle.paql_parser.specs.Sources.{left};
+ghost use Rattle.paql_predicates.specs.Sources.{left};
 
 use crate::changes::{delete, update};
-use crate::predicates::MAX_DEPTH;
-use crate::query::query;
-use crate::source::{Source, sees, take};
 use crate::tables::{create, insert, load, partition, vacuum};
 use formal_grammar::{ReadError, Why};
 use paql_ast::statements::Statement;
 use paql_lexer::Kind;
+use paql_predicates::{Source, sees, take};
+use paql_queries::query::query;
 use std::alloc::Global;
+
+/// How many brackets and NOTs of a predicate may be open at one place.
+const MAX_DEPTH: u32 = 64;
 
 #[tactic(auto, unfolding(paql_grammar::specs::StatementReading::begin))]
 fn begin(source: Source<'_>) -> Result<(Statement, Source<'_>), ReadError>

@@ -2,13 +2,12 @@
 ghost use Rattle.std.specs.Prelude.{◌≡◌};
 ghost use Rattle.formal_grammar.specs.Parse.{Gives};
 ghost use Rattle.paql_grammar.specs.StatementReading as read;
-ghost use Rattle.paql_parser.specs.Sources.{left};
+ghost use Rattle.paql_predicates.specs.Sources.{left};
 
-use crate::literals::lits;
-use crate::source::{Source, name, number, sees, take, whole};
 use formal_grammar::ReadError;
 use paql_ast::statements::Statement;
 use paql_lexer::Kind;
+use paql_predicates::{Source, lits, name, number, sees, take, whole};
 use schema_types::{Column, Lit, Text};
 use sqlite_items::Items;
 use std::alloc::Global;
