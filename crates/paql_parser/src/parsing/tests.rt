@@ -2,6 +2,7 @@ use super::*;
 use paql_ast::predicates::Pred;
 use pq_base::Scaled;
 use schema_types::Lit;
+use sqlite_items::Items;
 use std::test::*;
 
 /// Which statement was found.
@@ -135,27 +136,36 @@ fn is_number(lit: &Lit, want: Scaled) -> bool {
     }
 }
 
+/// Whether the part is a BETWEEN of these numbers.
+fn is_between(part: &Pred, least: Scaled, most: Scaled) -> bool {
+    match part {
+        Pred::Between { low, high, .. } => is_number(low, least) && is_number(high, most),
+        _ => false,
+    }
+}
+
+/// The parts of the AND by which a DELETE chooses its rows.
+fn and_of_delete(statement: Statement) -> Option<Items<Pred>> {
+    let Statement::Delete { filter, .. } = statement else {
+        return None;
+    };
+    match filter? {
+        Pred::And(parts) => Some(parts),
+        _ => None,
+    }
+}
+
 #[test]
 fn brackets_of_and_are_gone(rt: HostRuntime) -> Result<(), Fail> {
     let text = b"DELETE FROM T WHERE a = 1 AND (b = 2 AND c BETWEEN -1 AND 2.50)";
-    let found = parse(rt.alloc(), text)
+    let statement = parse(rt.alloc(), text)
         .ok()
+        .flatten()
         .ok_or("the text spells a statement")?;
-    let Some(
-        Statement::Delete {
-            filter: Some(Pred::And(parts)),
-            ..
-        },
-    ) = found
-    else {
-        return Err("the statement is a DELETE with an AND".into())
-    };
+    let parts = and_of_delete(statement).ok_or("the statement is a DELETE with an AND")?;
     assert_eq!(rt; parts.len(), 3);
-    let Some(Pred::Between { low, high, .. }) = parts.get(2) else {
-        return Err("the last part is a BETWEEN".into())
-    };
-    assert!(rt; is_number(low, Scaled::new(-1, 0)));
-    assert!(rt; is_number(high, Scaled::new(25, 1)));
+    let last = parts.get(2).ok_or("there is a third part")?;
+    assert!(rt; is_between(last, Scaled::new(-1, 0), Scaled::new(25, 1)));
     one_tree();
     Ok(())
 }
