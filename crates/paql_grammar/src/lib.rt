@@ -4,5 +4,6 @@
 //! parser follows. `proofs/` has one law for each line: its reading is exact for it. There is no parser here.
 #![tactic(auto)]
 
-mod laws;
-pub mod printing;
+mod printing;
+
+pub use printing::statements_are_canonical;
