@@ -169,3 +169,38 @@ fn brackets_of_and_are_gone(rt: HostRuntime) -> Result<(), Fail> {
     one_tree();
     Ok(())
 }
+
+#[test]
+fn examples_of_each_line(rt: HostRuntime) -> Result<(), Fail> {
+    let rows = [
+        b"CREATE TABLE Recipes (name TEXT, kcal DEC(1), n INT)".as_slice(),
+        b"INSERT INTO Recipes VALUES ('soup', 0.7, 1), ('rice', 0.8, 2)".as_slice(),
+        b"LOAD Recipes BYTES 120".as_slice(),
+        b"UPDATE Recipes SET kcal = 0.9, n = 3 WHERE name = 'soup'".as_slice(),
+        b"DELETE FROM Recipes WHERE kcal > 1".as_slice(),
+        b"PARTITION Recipes ON (kcal, n) SIZE 100 RADIUS 0.5".as_slice(),
+        b"VACUUM 3".as_slice(),
+        b"BEGIN".as_slice(),
+        b"INSERT INTO T VALUES ('it''s', -0.7)".as_slice(),
+        b"DELETE FROM T WHERE kcal < 1 OR n = 2".as_slice(),
+        b"DELETE FROM T WHERE kcal < 1 AND n = 2".as_slice(),
+        b"DELETE FROM T WHERE NOT (n = 2)".as_slice(),
+        b"DELETE FROM T WHERE n BETWEEN 1 AND 3".as_slice(),
+        b"DELETE FROM T WHERE name IN ('soup', 'rice')".as_slice(),
+        b"DELETE FROM T WHERE kcal <> fat".as_slice(),
+        b"DELETE FROM T WHERE R.kcal != -1.5".as_slice(),
+        b"SELECT PACKAGE(R) AS P FROM Recipes R AT VERSION 2 REPEAT 0 WHERE R.kcal < 1 SUCH THAT COUNT(P.*) = 3 MINIMIZE SUM(P.fat) USING DIRECT BUDGET 500".as_slice(),
+        b"SELECT PACKAGE(R) AS P FROM Recipes R SUCH THAT SUM(P.kcal) BETWEEN 2.0 AND 2.5".as_slice(),
+        b"SELECT PACKAGE(R) AS P FROM Recipes R SUCH THAT AVG(P.kcal) <= 0.8".as_slice(),
+        b"SELECT PACKAGE(R) AS P FROM Recipes R SUCH THAT COUNT(*) >= 2".as_slice(),
+        b"SELECT PACKAGE(R) AS P FROM Recipes R SUCH THAT 2 * COUNT(P.*) - SUM(P.n) + 1 <= 3".as_slice(),
+        b"SELECT PACKAGE(R) AS P FROM Recipes R SUCH THAT 3 <= 2 * SUM(P.n)".as_slice(),
+        b"SELECT PACKAGE(R) AS P FROM Recipes R SUCH THAT (SELECT COUNT(*) FROM P WHERE n > 1) = 0".as_slice(),
+        b"SELECT PACKAGE(R) AS P FROM Recipes R SUCH THAT AVG(kcal) BETWEEN 0.1 AND 2".as_slice(),
+        b"SELECT PACKAGE(R) AS P FROM \"from\" MAXIMIZE SUM(P.kcal) - 2 * COUNT(P.*) -- a comment".as_slice(),
+    ];
+    for text in rows {
+        assert!(rt; matches!(parse(rt.alloc(), text), Ok(Some(_))));
+    }
+    Ok(())
+}
