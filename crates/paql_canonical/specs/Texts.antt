@@ -1,0 +1,14 @@
+-- The canonical text of a statement, and what it means that it is read back.
+use Rattle.std.specs.Prelude.{ℕ, List}
+use Rattle.paql_ast.specs.declared.statements.Statement.{Statement}
+use Rattle.paql_grammar.specs.Print as print
+use Rattle.paql_grammar.specs.Spacing.{spaced}
+use Rattle.paql_grammar.specs.Texts.{IsStatement}
+
+-- The canonical lexemes of a statement, with the spaces of a canonical text between them.
+abbrev pub canonical_text : Statement → List ℕ
+canonical_text t = spaced (print.statement t)
+
+-- The canonical text of a text's statement is a text of it, and of no other.
+abbrev pub CanonicalIsRead : Type 0
+CanonicalIsRead = (text : List ℕ) (t : Statement) → IsStatement text t → IsStatement (canonical_text t) t
