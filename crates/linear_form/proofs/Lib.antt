@@ -1,0 +1,5 @@
+pub mod Legal
+pub mod Points
+pub mod Sizes
+pub mod Translated
+pub mod Made
