@@ -1,1 +1,2 @@
 pub mod Separable
+pub mod Sound
