@@ -1,2 +1,3 @@
 pub mod Separable
 pub mod Sound
+pub mod SoundWords
