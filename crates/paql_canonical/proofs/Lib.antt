@@ -1,3 +1,4 @@
 pub mod Separable
 pub mod Sound
 pub mod SoundWords
+pub mod SoundNumbers

@@ -48,7 +48,7 @@ is_sign kind [] = false
 is_sign kind (byte ∷ bytes) = is_mark byte && shows_kind kind (sign_of (byte ∷ bytes))
 
 -- what two tests tell together
-both_pass : (a b : Bool) → (a && b) ≡ true → (a ≡ true) × (b ≡ true)
+pub both_pass : (a b : Bool) → (a && b) ≡ true → (a ≡ true) × (b ≡ true)
 both_pass true b e = (refl, e)
 both_pass false b e = absurd (both_ways e refl)
 
@@ -60,7 +60,7 @@ all_in : (test : ℕ → Bool) (bytes : List ℕ) → all_pass test bytes ≡ tr
 all_in test [] e = tt
 all_in test (byte ∷ bytes) e = let both = both_pass (test byte) (all_pass test bytes) e in (both.0, all_in test bytes both.1)
 
-short_from_test : (n m : ℕ) → nat_le n m ≡ true → n ≤ m
+pub short_from_test : (n m : ℕ) → nat_le n m ≡ true → n ≤ m
 short_from_test n m e = grind (arith, nat_tests)
 
 -- a keyword is a token
