@@ -2,3 +2,4 @@ pub mod Separable
 pub mod Sound
 pub mod SoundWords
 pub mod SoundNumbers
+pub mod SoundPredicates

@@ -87,7 +87,7 @@ separable w p = chain w p.chained
 
 -- ---- the tokens of a text's parts
 
-tokens_split : (v w : List Lexeme) → AreTokens (v ++ w) → AreTokens v × AreTokens w
+pub tokens_split : (v w : List Lexeme) → AreTokens (v ++ w) → AreTokens v × AreTokens w
 tokens_split [] w all = (tt, all)
 tokens_split (t ∷ v) w all = let later = tokens_split v w all.1 in ((all.0, later.0), later.1)
 
