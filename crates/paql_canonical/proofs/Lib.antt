@@ -3,3 +3,5 @@ pub mod Sound
 pub mod SoundWords
 pub mod SoundNumbers
 pub mod SoundPredicates
+pub mod SoundAggregates
+pub mod SoundConditions

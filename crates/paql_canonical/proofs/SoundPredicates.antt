@@ -36,19 +36,18 @@ suffix_word w o (inl d) all of e =
     subst IsWord (some_is (sym d.second.1 ∙ e)) (named_word suffix.back d.value suffix.second (in_back suffix (in_front d all)))
 suffix_word w o (inr d) all of e = absurd (not_none (sym e ∙ d.1))
 
--- a name with a point and a name behind it
-sound_prefixed : (first second : List ℕ) → IsWord first → IsWord second → Sound (name first ∷ (spelled kinds.Dot ∷ (name second ∷ [])))
-sound_prefixed first second is_first is_second =
-    let front = name_lexeme first is_first in
-    let last = name_plain second is_second in
+-- A name, a point, and a name or a star.
+pub sound_prefixed : (first : List ℕ) (last : Lexeme) → IsWord first → Plain last → Sound (name first ∷ (spelled kinds.Dot ∷ (last ∷ [])))
+sound_prefixed first last is_word plain =
+    let front = name_lexeme first is_word in
     record {
       first = front.plain.point;
-      chained = (front.plain.token, record { number = rw front.number refl; minus = rw front.plain.minus refl }, (spelled_token kinds.Dot refl, record { number = refl; minus = refl }, (last.token, last.minus, tt)));
+      chained = (front.plain.token, record { number = rw front.number refl; minus = rw front.plain.minus refl }, (spelled_token kinds.Dot refl, record { number = refl; minus = refl }, (plain.token, plain.minus, tt)));
     }
 
 sound_column_of : (first : List ℕ) (second : Option (List ℕ)) → IsWord first → ((word : List ℕ) → second ≡ Some word → IsWord word) → Sound (print.column (grammar.column_of first second))
 sound_column_of first None is_first is_second = sound_one (name first) (name_plain first is_first)
-sound_column_of first (Some second) is_first is_second = sound_prefixed first second is_first (is_second second refl)
+sound_column_of first (Some second) is_first is_second = sound_prefixed first (name second) is_first (name_plain second (is_second second refl))
 
 pub sound_column : Sounds grammar.column print.column
 sound_column w of d all =
