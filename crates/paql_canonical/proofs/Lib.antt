@@ -5,3 +5,5 @@ pub mod SoundNumbers
 pub mod SoundPredicates
 pub mod SoundAggregates
 pub mod SoundConditions
+pub mod SoundQuery
+pub mod SoundStatements
