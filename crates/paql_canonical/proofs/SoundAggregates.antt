@@ -5,7 +5,7 @@ use Rattle.pq_base.specs.declared.scaled.Scaled.{Scaled}
 use Rattle.paql_lexer.specs.Lexical.{IsWord}
 use Rattle.paql_lexer.specs.declared.vocabulary.Kind.TheVariants as kinds
 use Rattle.paql_ast.specs.declared.predicates.Pred.{Pred}
-use Rattle.paql_ast.specs.declared.aggregates.Plain.{Plain as PlainAgg}
+use Rattle.paql_ast.specs.declared.aggregates.Plain.{Plain as PlainAggregate}
 use Rattle.paql_ast.specs.declared.aggregates.Plain.TheVariants.{Count, Sum}
 use Rattle.paql_ast.specs.declared.aggregates.Agg.{Agg}
 use Rattle.paql_ast.specs.declared.aggregates.Term.{Term}
@@ -44,7 +44,7 @@ kept_word package_name of is_word word e = kept (bytes_eq of package_name) e
     kept false same = subst IsWord (some_is same) is_word
 
 -- what a COUNT that has a text keeps
-is_kept : (package_name : List ℕ) (w : List Lexeme) (of : PlainAgg) → (grammar.all_rows or grammar.rows_of package_name) w of → AreTokens w → (o : Option (List ℕ)) × (of ≡ Count o) × IsKept o
+is_kept : (package_name : List ℕ) (w : List Lexeme) (of : PlainAggregate) → (grammar.all_rows or grammar.rows_of package_name) w of → AreTokens w → (o : Option (List ℕ)) × (of ≡ Count o) × IsKept o
 is_kept package_name w of (inl t) all = (None, t.second.1, λ word e. absurd (not_none (sym e)))
 is_kept package_name w of (inr t) all = (grammar.counted package_name t.value, t.second.second.second.1, kept_word package_name t.value (named_word t.front t.value t.first (in_front t all)))
 
@@ -53,16 +53,16 @@ sound_plain inside package_name is_word w of (inl t) all =
     let rows = t.second.second in
     let kept = is_kept package_name rows.front rows.value rows.first (in_front rows (in_back t.second (in_back t all))) in
     let brackets = sound_brackets (print.rows inside package_name kept.0) (sound_rows inside package_name kept.0 is_word kept.2) in
-    subst (λ (z : PlainAgg). Sound (print.plain inside package_name z)) (sym (rows.second.second.1 ∙ kept.1)) (word_behind kinds.Count _ (plain_word kinds.Count refl) brackets)
+    subst (λ (z : PlainAggregate). Sound (print.plain inside package_name z)) (sym (rows.second.second.1 ∙ kept.1)) (word_behind kinds.Count _ (plain_word kinds.Count refl) brackets)
 sound_plain inside package_name is_word w of (inr t) all =
     let column = t.second.second in
     let brackets = sound_brackets (print.column column.value) (sound_column column.front column.value column.first (in_front column (in_back t.second (in_back t all)))) in
-    subst (λ (z : PlainAgg). Sound (print.plain inside package_name z)) (sym column.second.second.1) (word_behind kinds.Sum _ (plain_word kinds.Sum refl) brackets)
+    subst (λ (z : PlainAggregate). Sound (print.plain inside package_name z)) (sym column.second.second.1) (word_behind kinds.Sum _ (plain_word kinds.Sum refl) brackets)
 
 -- ---- aggregates
 
 -- an aggregate of some copies
-sound_only : (package_name from : List ℕ) (of : PlainAgg) (filter : Pred) → Sound (print.plain true package_name of) → IsWord from → Sound (print.pred filter) → Sound (print.only package_name of (Some (from, filter)))
+sound_only : (package_name from : List ℕ) (of : PlainAggregate) (filter : Pred) → Sound (print.plain true package_name of) → IsWord from → Sound (print.pred filter) → Sound (print.only package_name of (Some (from, filter)))
 sound_only package_name from of filter plain is_word pred =
     let closed = sound_before (print.pred filter) (spelled kinds.RightParen) pred (plain_word kinds.RightParen refl) in
     let source = sound_behind (name from) _ (name_plain from is_word) (word_behind kinds.Where _ (plain_word kinds.Where refl) closed) in
@@ -100,7 +100,7 @@ module _ (agg : Lang Lexeme Agg) (package_name : List ℕ) (sound_agg : Sounds a
   sound_term w of (inr t) all = sound_part w of t all
 
 -- a minus doesn't become one with the first lexeme of an aggregate
-behind_minus : (package_name : List ℕ) (of : PlainAgg) (only : Option (List ℕ × Pred)) → Precedes (spelled kinds.Minus) (print.only package_name of only)
+behind_minus : (package_name : List ℕ) (of : PlainAggregate) (only : Option (List ℕ × Pred)) → Precedes (spelled kinds.Minus) (print.only package_name of only)
 behind_minus package_name (Count of) None = record { number = refl; minus = refl }
 behind_minus package_name (Sum of) None = record { number = refl; minus = refl }
 behind_minus package_name of (Some from) = record { number = refl; minus = refl }

@@ -26,7 +26,7 @@ use Rattle.paql_grammar.specs.Spellings.{spelled}
 use Rattle.paql_grammar.proofs.NumeralLemmas.{are_digits, whole_small}
 use Rattle.paql_canonical.proofs.Separable.{IsToken, AreTokens}
 use Rattle.paql_canonical.proofs.Sound.{Plain, Sound, Sounds, sound_one, in_back}
-use Rattle.paql_canonical.proofs.SoundWords.{of_class, no_word, no_sign, one_token, both_pass, short_from_test, spelled_token}
+use Rattle.paql_canonical.proofs.SoundWords.{of_class, no_word, no_sign, only_token, both_pass, short_from_test, spelled_token}
 
 -- ---- digits are tokens
 
@@ -88,9 +88,9 @@ number_token value places =
 
 -- ---- a token of a number shows at most 29 places
 
-number_of_digits : (kind : Kind) (bytes rest : List ℕ) → kind ≡ kinds.Number → Is kind bytes rest → IsNumber kind bytes rest
-number_of_digits kind [] rest e t = absurd t
-number_of_digits kind (byte ∷ bytes) rest e t =
+is_number : (kind : Kind) (bytes rest : List ℕ) → kind ≡ kinds.Number → Is kind bytes rest → IsNumber kind bytes rest
+is_number kind [] rest e t = absurd t
+is_number kind (byte ∷ bytes) rest e t =
     let word = byte ∷ bytes in
     of_class (IsNumber kind word rest) kind byte bytes rest t (λ x. absurd (no_word kind word rest (rw e refl) x)) (λ x. x) (λ x. absurd (cc (e, x.meaning))) (λ x. absurd (cc (e, x.meaning))) (λ x. absurd (no_sign kind word rest (rw e refl) x))
 
@@ -148,7 +148,7 @@ few_places minus t value e token =
     let fraction = without_zeros (behind_point t.bytes) in
     let digits = before_point t.bytes ++ fraction in
     let kind : t.kind ≡ kinds.Number = same_true the_type tt t.kind kinds.Number (test_passes (is kinds.Number t) (number_in minus t.bytes) value e) in
-    let number = number_of_digits t.kind t.bytes token.0 kind token.1 in
+    let number = is_number t.kind t.bytes token.0 kind token.1 in
     let shown = passed (is kinds.Number t) (number_in minus t.bytes) value e in
     let made = passed (all_ascii_digits digits) (scaled (signed minus (digits_value 10 digits)) (length fraction)) value shown in
     let scale = scaled_scale (signed minus (digits_value 10 digits)) (length fraction) value made in
@@ -162,7 +162,7 @@ number_plain minus t value e token = record { token = number_token value (few_pl
 
 -- The number that a text of tokens shows is printed as a token.
 pub plain_number : (minus : Bool) (w : List Lexeme) (value : Scaled) → number minus w value → AreTokens w → Plain (print.number value)
-plain_number minus w value d all = number_plain minus d.0 value d.2 (one_token w d.0 d.1 all)
+plain_number minus w value d all = number_plain minus d.0 value d.2 (only_token w d.0 d.1 all)
 
 pub sound_number : (minus : Bool) → Sounds (number minus) (λ value. print.number value ∷ [])
 sound_number minus w value d all = sound_one (print.number value) (plain_number minus w value d all)

@@ -205,9 +205,9 @@ no_word kind word rest other t = both_ways (ap is_word_kind t.meaning ∙ word_k
 -- ---- names
 
 -- a name is a word
-plain_name : (kind : Kind) (bytes rest : List ℕ) → kind ≡ kinds.Name → Is kind bytes rest → IsWord bytes
-plain_name kind [] rest e t = absurd t
-plain_name kind (byte ∷ bytes) rest e t =
+bare_name : (kind : Kind) (bytes rest : List ℕ) → kind ≡ kinds.Name → Is kind bytes rest → IsWord bytes
+bare_name kind [] rest e t = absurd t
+bare_name kind (byte ∷ bytes) rest e t =
     of_class (IsWord (byte ∷ bytes)) kind byte bytes rest t (λ x. x.is_word) (λ x. absurd (cc (e, x.meaning))) (λ x. absurd (cc (e, x.meaning))) (λ x. absurd (cc (e, x.meaning))) (λ x. absurd (no_sign kind (byte ∷ bytes) rest (rw e refl) x))
 
 -- what stands between quotes
@@ -217,9 +217,9 @@ inside_quotes first last bytes =
     rw e (take-append_seam bytes (last ∷ []))
 
 -- a quoted name is a word inside its quotes
-quoted_name : (kind : Kind) (bytes rest : List ℕ) → kind ≡ kinds.QuotedName → Is kind bytes rest → IsWord (inside bytes)
-quoted_name kind [] rest e t = absurd t
-quoted_name kind (byte ∷ bytes) rest e t =
+quoted_word : (kind : Kind) (bytes rest : List ℕ) → kind ≡ kinds.QuotedName → Is kind bytes rest → IsWord (inside bytes)
+quoted_word kind [] rest e t = absurd t
+quoted_word kind (byte ∷ bytes) rest e t =
     let word = byte ∷ bytes in
     of_class (IsWord (inside word)) kind byte bytes rest t (λ x. absurd (no_word kind word rest (rw e refl) x)) (λ x. absurd (cc (e, x.meaning))) (λ x. absurd (cc (e, x.meaning)))
     (λ x. subst IsWord (sym (ap inside x.quotes ∙ inside_quotes 34 34 x.name)) x.is_word) (λ x. absurd (no_sign kind word rest (rw e refl) x))
@@ -229,17 +229,17 @@ shown_word : (t : Lexeme) (word : List ℕ) → name_of t ≡ Some word → IsTo
 shown_word t word e token = by_name (is kinds.Name t) (is kinds.QuotedName t) refl refl e
   where
     by_name : (a b : Bool) → is kinds.Name t ≡ a → is kinds.QuotedName t ≡ b → (if a then Some t.bytes else (if b then Some (inside t.bytes) else None)) ≡ Some word → IsWord word
-    by_name true b first second e = subst IsWord (some_is e) (plain_name t.kind t.bytes token.0 (same_true the_type tt t.kind kinds.Name first) token.1)
-    by_name false true first second e = subst IsWord (some_is e) (quoted_name t.kind t.bytes token.0 (same_true the_type tt t.kind kinds.QuotedName second) token.1)
+    by_name true b first second e = subst IsWord (some_is e) (bare_name t.kind t.bytes token.0 (same_true the_type tt t.kind kinds.Name first) token.1)
+    by_name false true first second e = subst IsWord (some_is e) (quoted_word t.kind t.bytes token.0 (same_true the_type tt t.kind kinds.QuotedName second) token.1)
     by_name false false first second e = absurd (not_none (sym e))
 
 -- The one token of a text is a token.
-pub one_token : (w : List Lexeme) (t : Lexeme) → w ≡ t ∷ [] → AreTokens w → IsToken t
-one_token w t e all = (subst AreTokens e all).0
+pub only_token : (w : List Lexeme) (t : Lexeme) → w ≡ t ∷ [] → AreTokens w → IsToken t
+only_token w t e all = (subst AreTokens e all).0
 
 -- The name that a text of tokens shows is a word.
 pub named_word : (w : List Lexeme) (word : List ℕ) → name w word → AreTokens w → IsWord word
-named_word w word d all = shown_word d.0 word d.2 (one_token w d.0 d.1 all)
+named_word w word d all = shown_word d.0 word d.2 (only_token w d.0 d.1 all)
 
 -- a word that is no keyword is a name
 bare_token : (word : List ℕ) → IsWord word → kinds.Name ≡ word_kind word → Is kinds.Name word []
@@ -304,4 +304,4 @@ shown_content t value e token = by_text (is kinds.Text t) refl e
 
 -- The lexeme of a text that a text of tokens shows.
 pub sound_content : Sounds content (λ value. print.quoted value ∷ [])
-sound_content w value d all = sound_one (print.quoted value) (record { token = shown_content d.0 value d.2 (one_token w d.0 d.1 all); minus = refl; point = refl })
+sound_content w value d all = sound_one (print.quoted value) (record { token = shown_content d.0 value d.2 (only_token w d.0 d.1 all); minus = refl; point = refl })
