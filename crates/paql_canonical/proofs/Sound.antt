@@ -1,5 +1,5 @@
 -- Lists of lexemes of which no two become one, wherever such lists stand one behind the other.
-use Rattle.std.proofs.Common.{◌≡◌, inl, inr, Bool, true, false, ◌&&◌, IsFalse, List, [], ◌∷◌, ◌++◌, flat_map, Option, Some, None, refl, sym, subst}
+use Rattle.std.proofs.Common.{◌≡◌, inl, inr, Bool, true, false, ◌&&◌, IsFalse, List, [], ◌∷◌, ◌++◌, flat_map, Option, refl, sym, subst}
 use Rattle.paql_lexer.specs.declared.vocabulary.Kind.{Kind}
 use Rattle.paql_lexer.specs.declared.vocabulary.Kind.TheVariants as kinds
 use Rattle.formal_grammar.specs.Lang.{Lang, Then, ◌>>◌, optional, many, listed}

@@ -1,5 +1,5 @@
 -- The canonical lexemes of conditions and goals are sound, where those of sums are.
-use Rattle.std.proofs.Common.{◌≡◌, inl, inr, ℕ, Bool, true, false, if◌then◌else◌, List, [], ◌∷◌, ◌++◌, refl, sym, subst}
+use Rattle.std.proofs.Common.{inl, inr, ℕ, Bool, true, false, if◌then◌else◌, List, refl, sym, subst}
 use Rattle.pq_base.specs.declared.scaled.Scaled.{Scaled}
 use Rattle.paql_lexer.specs.declared.vocabulary.Kind.TheVariants as kinds
 use Rattle.paql_ast.specs.declared.predicates.ColumnName.{ColumnName}
@@ -13,7 +13,6 @@ use Rattle.paql_grammar.specs.Aggregates as grammar
 use Rattle.paql_grammar.specs.Print as print
 use Rattle.paql_grammar.specs.Print.{behind}
 use Rattle.paql_grammar.specs.Spellings.{spelled, signed}
-use Rattle.paql_canonical.proofs.Separable.{AreTokens}
 use Rattle.paql_canonical.proofs.Sound.{Plain, Sound, Sounds, sound_append, sound_behind, in_front, in_back}
 use Rattle.paql_canonical.proofs.SoundWords.{plain_word}
 use Rattle.paql_canonical.proofs.SoundNumbers.{sound_signed}

@@ -18,7 +18,7 @@ use Rattle.paql_lexer.specs.contracts.vocabulary.Kind.{the_type}
 use Rattle.paql_lexer.specs.declared.vocabulary.Kind.{Kind}
 use Rattle.paql_lexer.specs.declared.vocabulary.Kind.TheVariants as kinds
 use Rattle.formal_grammar.proofs.Contexts.{some_is, not_none}
-use Rattle.paql_grammar.specs.Lexemes.{Lexeme, is, number, whole, number_of, whole_of}
+use Rattle.paql_grammar.specs.Lexemes.{Lexeme, is, number, whole, number_of}
 use Rattle.paql_grammar.specs.Numerals.{stored, scaled, before_point, behind_point, and_digits, without_zeros, number_in, whole_in}
 use Rattle.paql_grammar.specs.Predicates.{signed as signed_number}
 use Rattle.paql_grammar.specs.Spellings as print

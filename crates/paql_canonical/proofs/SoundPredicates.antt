@@ -1,7 +1,6 @@
 -- The canonical lexemes of columns, literals and predicates are sound.
 use Rattle.std.proofs.Common.{◌≡◌, inl, inr, ℕ, zero, suc, Bool, true, false, if◌then◌else◌, nat_lt, List, [], ◌∷◌, ◌++◌, map, flat_map, Option, Some, None, refl, sym, ap, subst, ◌∙◌}
 use Rattle.schema_types.specs.declared.Lit.{Lit}
-use Rattle.schema_types.specs.declared.Lit.TheVariants as lits
 use Rattle.paql_lexer.specs.Lexical.{IsWord}
 use Rattle.paql_lexer.specs.declared.vocabulary.Kind.{Kind}
 use Rattle.paql_lexer.specs.declared.vocabulary.Kind.TheVariants as kinds
@@ -9,7 +8,6 @@ use Rattle.paql_ast.specs.declared.predicates.ColumnName.{ColumnName}
 use Rattle.paql_ast.specs.declared.predicates.CmpOp.{CmpOp}
 use Rattle.paql_ast.specs.declared.predicates.CmpOp.TheVariants as ops
 use Rattle.paql_ast.specs.declared.predicates.Operand.{Operand}
-use Rattle.paql_ast.specs.declared.predicates.Operand.TheVariants as operands
 use Rattle.paql_ast.specs.declared.predicates.Pred.{Pred, out-Pred, out-roll-Pred}
 use Rattle.paql_ast.specs.declared.predicates.Pred.TheVariants as preds
 use Rattle.paql_ast.specs.declared.predicates.Pred.TheOpen.{Pred-F}
@@ -21,7 +19,7 @@ use Rattle.paql_grammar.specs.Predicates as grammar
 use Rattle.paql_grammar.specs.Predicates.{and_parts, and_of, or_parts, or_of}
 use Rattle.paql_grammar.specs.Print as print
 use Rattle.paql_grammar.specs.Print.{Held, held, at_least, behind}
-use Rattle.paql_grammar.specs.Spellings.{spelled, name, signed, quoted}
+use Rattle.paql_grammar.specs.Spellings.{spelled, name}
 use Rattle.paql_canonical.proofs.Separable.{AreTokens}
 use Rattle.paql_canonical.proofs.Sound.{Plain, Sound, Sounds, sound_none, sound_append, sound_behind, sound_one, sound_before, tokens_split, in_front, in_back, sound_listed}
 use Rattle.paql_canonical.proofs.SoundWords.{plain_word, spelled_token, name_lexeme, name_plain, named_word, sound_content}

@@ -1,19 +1,17 @@
 -- The canonical lexemes of a statement that has a text of tokens are separable.
-use Rattle.std.proofs.Common.{inl, inr, ℕ, false, List, [], ◌∷◌, ◌++◌, refl, sym, subst}
+use Rattle.std.proofs.Common.{inl, inr, ℕ, false, List, [], ◌∷◌, refl, sym, subst}
 use Rattle.schema_types.specs.declared.Column.{Column}
 use Rattle.schema_types.specs.declared.Kind.{Kind as ColumnKind}
-use Rattle.schema_types.specs.declared.Kind.TheVariants as column_kinds
 use Rattle.schema_types.specs.declared.Lit.{Lit}
 use Rattle.paql_lexer.specs.declared.vocabulary.Kind.TheVariants as kinds
 use Rattle.paql_ast.specs.declared.statements.Statement.{Statement}
-use Rattle.paql_ast.specs.declared.statements.Statement.TheVariants as statements
 use Rattle.paql_grammar.specs.Lexemes.{Lexeme, name as named}
 use Rattle.paql_grammar.specs.Predicates.{pred}
 use Rattle.paql_grammar.specs.Statements as grammar
 use Rattle.paql_grammar.specs.Statements.{statement}
 use Rattle.paql_grammar.specs.Print as print
 use Rattle.paql_grammar.specs.Print.{behind}
-use Rattle.paql_grammar.specs.Spellings.{spelled, name, number, whole}
+use Rattle.paql_grammar.specs.Spellings.{spelled, name, whole}
 use Rattle.paql_canonical.proofs.Separable.{AreTokens, Separable}
 use Rattle.paql_canonical.proofs.Sound.{Sound, Sounds, sound_append, sound_behind, sound_one, separable, in_front, in_back, sound_optional, sound_listed}
 use Rattle.paql_canonical.proofs.SoundWords.{plain_word, name_plain, named_word, sound_names}

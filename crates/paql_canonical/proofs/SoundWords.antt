@@ -1,10 +1,10 @@
 -- The canonical lexemes of words, signs, names and texts are tokens.
-use Rattle.std.proofs.Common.{◌≡◌, ◌⊎◌, inl, inr, ℕ, suc, ◌-◌, ◌≤◌, Bool, true, false, not, ◌||◌, ◌&&◌, ◌==◌, if◌then◌else◌, nat_le, IsTrue, IsFalse, IsUtf8, List, [], ◌∷◌, ◌++◌, length, length-append, take, Option, Some, None, refl, sym, ap, subst, ◌∙◌, arith}
+use Rattle.std.proofs.Common.{◌≡◌, ℕ, suc, ◌-◌, ◌≤◌, Bool, true, false, not, ◌||◌, ◌&&◌, ◌==◌, if◌then◌else◌, nat_le, IsFalse, IsUtf8, List, [], ◌∷◌, ◌++◌, length, length-append, Option, Some, None, refl, sym, ap, subst, ◌∙◌, arith}
 use Rattle.std.proofs.Math.Seq.{take-append_seam}
 use Rattle.std.proofs.lemmas.Bool.Decides.{nat_tests}
 use Rattle.std.specs.Str.{str_eq_ignore_ascii_case}
 use Rattle.std.specs.Char.{is_ascii_digit, is_ascii_alphanumeric}
-use denote.Enum.Bare.{sameb, same_true, true_same}
+use denote.Enum.Bare.{sameb, same_true}
 use Rattle.paql_lexer.specs.Keywords.{keywords, kind_in, word_kind}
 use Rattle.paql_lexer.specs.Lexical.{AllIn, Is, IsWord, IsWordToken, IsQuotedName, IsNumber, IsText, IsSign, doubled, is_letter, short_sign, long_sign, sign_of}
 use Rattle.paql_lexer.specs.contracts.vocabulary.Kind.{the_type}
