@@ -5,3 +5,11 @@ pub mod Pieces
 pub mod Separable
 pub mod SpacedTokens
 pub mod Touching
+pub mod Sound
+pub mod SoundWords
+pub mod SoundNumbers
+pub mod SoundPredicates
+pub mod SoundAggregates
+pub mod SoundConditions
+pub mod SoundQuery
+pub mod SoundStatements
