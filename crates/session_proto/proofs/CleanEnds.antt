@@ -3,7 +3,7 @@ use Rattle.std.proofs.Common.{◌≡◌, ℕ, Bool, true, false, not, ◌&&◌, 
 use Rattle.std.proofs.lemmas.Bool.{cases_eq, ne_eqb}
 use Rattle.session_proto.specs.Frames.{after, shows, ends, place_behind, IsOpen, shows_token, is_dash, is_blank, Skips, closed}
 use Rattle.session_proto.specs.Input.{Input, Needs}
-use Rattle.session_proto.specs.Sessions.{Frame, Begins, EndsClean, CleanAtEnd}
+use Rattle.session_proto.specs.Sessions.{Frame, Begins, OneWish, EndsClean, CleanAtEnd}
 use Rattle.session_proto.specs.declared.framer.Awaited.{Awaited}
 use Rattle.session_proto.specs.declared.scan.Place.{Place}
 use Rattle.session_proto.specs.declared.scan.Place.TheVariants as places
@@ -52,19 +52,19 @@ blank_open bytes blank =
 
 -- ---- the rest behind the same frames is one
 
-begins_once : (wants : List ℕ → Option ℕ) (bytes : List ℕ) (frames : List Frame) (x y : List ℕ) → Begins wants bytes frames x → Begins wants bytes frames y → x ≡ y
-begins_once wants bytes [] x y one other = one ∙ sym other
-begins_once wants bytes (frame ∷ frames) x y one other =
-    let same = first_once wants bytes frame frame one.0 other.0 one.1 other.1 in
-    begins_once wants one.0 frames x y one.2 (subst (λ (w : List ℕ). Begins wants w frames y) (sym same.1) other.2)
+begins_once : (Wants : List ℕ → ℕ → Type 0) → OneWish Wants → (bytes : List ℕ) (frames : List Frame) (x y : List ℕ) → Begins Wants bytes frames x → Begins Wants bytes frames y → x ≡ y
+begins_once Wants wish bytes [] x y one other = one ∙ sym other
+begins_once Wants wish bytes (frame ∷ frames) x y one other =
+    let same = first_once Wants wish bytes frame frame one.0 other.0 one.1 other.1 in
+    begins_once Wants wish one.0 frames x y one.2 (subst (λ (w : List ℕ). Begins Wants w frames y) (sym same.1) other.2)
 
 none_not_some : {A : Type 0} (o : Option A) (x : A) → o ≡ None → o ≡ Some x → ⊥
 none_not_some o x none some = cc
 
-pub clean_at_end : CleanAtEnd
-clean_at_end wants bytes frames None input after rest stands next are =
+pub clean_at_end : (Wants : List ℕ → ℕ → Type 0) → CleanAtEnd Wants
+clean_at_end Wants wish bytes frames None input after rest stands next are =
     let needs = subst (λ (a : Option Awaited). Needs a input after) stands.awaits next in
-    let same : stands.rest ≡ rest = begins_once wants bytes frames stands.rest rest stands.begins are.begins in
+    let same : stands.rest ≡ rest = begins_once Wants wish bytes frames stands.rest rest stands.begins are.begins in
     let skips : Skips rest after.left =
     subst (λ (w : List ℕ). Skips w after.left) same (skips_more stands.rest input.left after.left stands.skips needs.1) in (
       λ (clean : (after.awaited ≡ None) × IsTrue (is_blank after.left)). (after.left, skips, clean.1),
@@ -73,9 +73,9 @@ clean_at_end wants bytes frames None input after rest stands next are =
           rest_once rest after.left clean.0 skips clean.1 (no_frame_open after.left needs.2) (no_frame_open clean.0 (blank_open clean.0 clean.2)) in
           (needs.0, subst (λ (w : List ℕ). IsTrue (is_blank w)) (sym left) clean.2),
     )
-clean_at_end wants bytes frames (Some text) input after rest stands next are =
+clean_at_end Wants wish bytes frames (Some text) input after rest stands next are =
     let needs = subst (λ (a : Option Awaited). Needs a input after) stands.awaits next in
-    let same : stands.rest ≡ rest = begins_once wants bytes frames stands.rest rest stands.begins are.begins in (
+    let same : stands.rest ≡ rest = begins_once Wants wish bytes frames stands.rest rest stands.begins are.begins in (
       λ (clean : (after.awaited ≡ None) × IsTrue (is_blank after.left)).
           absurd (none_not_some after.awaited stands.body clean.0 (ap (λ (i : Input). i.awaited) needs.0 ∙ stands.awaits)),
       λ (clean : EndsClean rest).
