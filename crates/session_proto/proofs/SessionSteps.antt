@@ -39,7 +39,7 @@ frame_same f g text given =
     let two : middle ≡ g = ap (λ (c : Content). record { text = g.text; content = c }) given in
     one ∙ two
 
-pub first_once : (Wants : List ℕ → ℕ → Type 0) → OneWish Wants → (bytes : List ℕ) (f g : Frame) (x y : List ℕ) → IsFirst Wants bytes f x → IsFirst Wants bytes g y → (f ≡ g) × (x ≡ y)
+first_once : (Wants : List ℕ → ℕ → Type 0) → OneWish Wants → (bytes : List ℕ) (f g : Frame) (x y : List ℕ) → IsFirst Wants bytes f x → IsFirst Wants bytes g y → (f ≡ g) × (x ≡ y)
 first_once Wants wish bytes f g x y one other =
     let same = statement_once bytes f.text g.text one.behind other.behind one.is_statement other.is_statement one.first other.first in
     let takes : Takes (Wants f.text) one.behind g.content y =

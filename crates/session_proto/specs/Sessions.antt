@@ -25,7 +25,7 @@ pub record TakesBody (Wanted : ℕ → Type 0) (bytes : List ℕ) (given : Conte
   pub first : bytes ≡ body ++ rest
   pub gives : given ≡ (if nat_le count 16777216 then held body else skipped count)
 
--- The body of a statement, or none, and what stands behind. `Wanted` says that the statement has a body of so many bytes.
+-- The body of a statement, or none, and what stands behind. `Wanted` says how many bytes the body has.
 abbrev pub Takes : (ℕ → Type 0) → List ℕ → Content → List ℕ → Type 0
 Takes Wanted bytes given rest = TakesNothing Wanted bytes given rest ⊎ TakesBody Wanted bytes given rest
 
@@ -157,7 +157,7 @@ OverlongStays = (rest more : List ℕ) → IsOverlong rest → IsOverlong (rest 
 
 -- Where more bytes are needed, a framer is clean exactly where the bytes end so.
 abbrev pub CleanAtEnd : (List ℕ → ℕ → Type 0) → Type 0
-CleanAtEnd Wants = OneWish Wants → (bytes : List ℕ) (frames : List Frame)
+CleanAtEnd Wants = (bytes : List ℕ) (frames : List Frame)
     (before : Option (List ℕ)) (input after : Input) (rest : List ℕ)
     → Stands Wants bytes frames before input → IsNext input need after
     → AreFrames Wants bytes frames rest
