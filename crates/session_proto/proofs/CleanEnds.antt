@@ -1,15 +1,16 @@
 -- When a framer is clean.
-use Rattle.std.proofs.Common.{◌≡◌, ℕ, Bool, true, false, not, ◌&&◌, ◌||◌, Option, None, Some, List, [], ◌∷◌, ◌++◌, IsTrue, IsFalse, inl, inr, refl, sym, ap, ◌∙◌, subst}
+use Rattle.std.proofs.Common.{◌≡◌, ℕ, Bool, true, false, not, ◌&&◌, ◌||◌, Option, None, Some, List, [], ◌∷◌, ◌++◌, length, IsTrue, IsFalse, inl, inr, refl, sym, ap, ◌∙◌, subst}
+use Rattle.std.specs.Prelude.{nat_le, if◌then◌else◌}
 use Rattle.std.proofs.lemmas.Bool.{cases_eq, ne_eqb}
 use Rattle.session_proto.specs.Frames.{after, shows, ends, place_behind, IsOpen, shows_token, is_dash, is_blank, Skips, closed}
-use Rattle.session_proto.specs.Input.{Input, Needs}
-use Rattle.session_proto.specs.Sessions.{Frame, Begins, EndsClean, CleanAtEnd}
+use Rattle.session_proto.specs.Input.{Input, Content, absent, held, skipped, Needs}
+use Rattle.session_proto.specs.Sessions.{Frame, TakesBody, Takes, IsFirst, Begins, EndsClean, CleanAtEnd}
 use Rattle.session_proto.specs.declared.framer.Awaited.{Awaited}
 use Rattle.session_proto.specs.declared.scan.Place.{Place}
 use Rattle.session_proto.specs.declared.scan.Place.TheVariants as places
 use Rattle.session_proto.proofs.FrameSteps.{skips_more}
-use Rattle.session_proto.proofs.Framing.{no_frame_open, no_statement, rest_once}
-use Rattle.session_proto.proofs.SessionSteps.{first_once}
+use Rattle.session_proto.proofs.Framing.{no_frame_open, statement_once, no_statement, rest_once}
+use Rattle.session_proto.proofs.SessionSteps.{parts_once}
 
 -- ---- no frame ends in what is blank
 
@@ -52,19 +53,49 @@ blank_open bytes blank =
 
 -- ---- the rest behind the same frames is one
 
-begins_once : (wants : List ℕ → Option ℕ) (bytes : List ℕ) (frames : List Frame) (x y : List ℕ) → Begins wants bytes frames x → Begins wants bytes frames y → x ≡ y
-begins_once wants bytes [] x y one other = one ∙ sym other
-begins_once wants bytes (frame ∷ frames) x y one other =
-    let same = first_once wants bytes frame frame one.0 other.0 one.1 other.1 in
-    begins_once wants one.0 frames x y one.2 (subst (λ (w : List ℕ). Begins wants w frames y) (sym same.1) other.2)
+-- how many bytes the body has
+size_of : Content → ℕ
+size_of absent = 0
+size_of (held bytes) = length bytes
+size_of (skipped count) = count
+
+given_size : (whole : Bool) (body : List ℕ) (count : ℕ) → length body ≡ count → size_of (if whole then held body else skipped count) ≡ count
+unfolding size_of
+given_size true body count size = size
+given_size false body count size = refl
+
+takes_size : (Wanted : ℕ → Type 0) (bytes : List ℕ) (given : Content) (rest : List ℕ) (takes : TakesBody Wanted bytes given rest) → size_of given ≡ length takes.body
+takes_size Wanted bytes given rest takes =
+    ap (λ (c : Content). size_of c) takes.gives ∙ (given_size (nat_le takes.count 16777216) takes.body takes.count takes.size ∙ sym takes.size)
+
+takes_same : (Wanted : ℕ → Type 0) (bytes : List ℕ) (given : Content) (x y : List ℕ) → Takes Wanted bytes given x → Takes Wanted bytes given y → x ≡ y
+takes_same Wanted bytes given x y (inl one) (inl other) = one.all ∙ sym other.all
+takes_same Wanted bytes given x y (inl one) (inr other) = absurd (one.unwanted other.count other.wanted)
+takes_same Wanted bytes given x y (inr one) (inl other) = absurd (other.unwanted one.count one.wanted)
+takes_same Wanted bytes given x y (inr one) (inr other) =
+    let size : length one.body ≡ length other.body = sym (takes_size Wanted bytes given x one) ∙ takes_size Wanted bytes given y other in
+    let same = parts_once one.body other.body x y size (sym one.first ∙ other.first) in
+    same.1
+
+first_same : (Wants : List ℕ → ℕ → Type 0) (bytes : List ℕ) (frame : Frame) (x y : List ℕ) → IsFirst Wants bytes frame x → IsFirst Wants bytes frame y → x ≡ y
+first_same Wants bytes frame x y one other =
+    let same = statement_once bytes frame.text frame.text one.behind other.behind one.is_statement other.is_statement one.first other.first in
+    takes_same (Wants frame.text) one.behind frame.content x y one.takes
+    (subst (λ (w : List ℕ). Takes (Wants frame.text) w frame.content y) (sym same.1) other.takes)
+
+begins_once : (Wants : List ℕ → ℕ → Type 0) (bytes : List ℕ) (frames : List Frame) (x y : List ℕ) → Begins Wants bytes frames x → Begins Wants bytes frames y → x ≡ y
+begins_once Wants bytes [] x y one other = one ∙ sym other
+begins_once Wants bytes (frame ∷ frames) x y one other =
+    let same = first_same Wants bytes frame one.0 other.0 one.1 other.1 in
+    begins_once Wants one.0 frames x y one.2 (subst (λ (w : List ℕ). Begins Wants w frames y) (sym same) other.2)
 
 none_not_some : {A : Type 0} (o : Option A) (x : A) → o ≡ None → o ≡ Some x → ⊥
 none_not_some o x none some = cc
 
-pub clean_at_end : CleanAtEnd
-clean_at_end wants bytes frames None input after rest stands next are =
+pub clean_at_end : (Wants : List ℕ → ℕ → Type 0) → CleanAtEnd Wants
+clean_at_end Wants bytes frames None input after rest stands next are =
     let needs = subst (λ (a : Option Awaited). Needs a input after) stands.awaits next in
-    let same : stands.rest ≡ rest = begins_once wants bytes frames stands.rest rest stands.begins are.begins in
+    let same : stands.rest ≡ rest = begins_once Wants bytes frames stands.rest rest stands.begins are.begins in
     let skips : Skips rest after.left =
     subst (λ (w : List ℕ). Skips w after.left) same (skips_more stands.rest input.left after.left stands.skips needs.1) in (
       λ (clean : (after.awaited ≡ None) × IsTrue (is_blank after.left)). (after.left, skips, clean.1),
@@ -73,9 +104,9 @@ clean_at_end wants bytes frames None input after rest stands next are =
           rest_once rest after.left clean.0 skips clean.1 (no_frame_open after.left needs.2) (no_frame_open clean.0 (blank_open clean.0 clean.2)) in
           (needs.0, subst (λ (w : List ℕ). IsTrue (is_blank w)) (sym left) clean.2),
     )
-clean_at_end wants bytes frames (Some text) input after rest stands next are =
+clean_at_end Wants bytes frames (Some text) input after rest stands next are =
     let needs = subst (λ (a : Option Awaited). Needs a input after) stands.awaits next in
-    let same : stands.rest ≡ rest = begins_once wants bytes frames stands.rest rest stands.begins are.begins in (
+    let same : stands.rest ≡ rest = begins_once Wants bytes frames stands.rest rest stands.begins are.begins in (
       λ (clean : (after.awaited ≡ None) × IsTrue (is_blank after.left)).
           absurd (none_not_some after.awaited stands.body clean.0 (ap (λ (i : Input). i.awaited) needs.0 ∙ stands.awaits)),
       λ (clean : EndsClean rest).

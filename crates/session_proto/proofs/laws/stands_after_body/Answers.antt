@@ -2,4 +2,4 @@ use Rattle.session_proto.proofs.SessionSteps.{stands_after_body}
 use Rattle.session_proto.proofs.laws.stands_after_body.Goals as goal
 
 pub returns : goal.returns
-returns c = stands_after_body
+returns g c = stands_after_body g.R.BodyRule.Wants

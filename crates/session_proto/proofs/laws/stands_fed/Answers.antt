@@ -2,4 +2,4 @@ use Rattle.session_proto.proofs.SessionSteps.{stands_fed}
 use Rattle.session_proto.proofs.laws.stands_fed.Goals as goal
 
 pub returns : goal.returns
-returns c = stands_fed
+returns g c = stands_fed g.R.BodyRule.Wants
