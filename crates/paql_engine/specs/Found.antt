@@ -18,4 +18,4 @@ Finds changes t Other = IsOther changes t
 abbrev pub IsQuestionOr : List ℤ → BoundQuery → Built → Type 0
 IsQuestionOr values query (Question of asked) = (of ≡ values) × (asked ≡ query) × IsAnswered (question values query)
 IsQuestionOr values query Other = ¬ IsAnswered (question values query)
-IsQuestionOr values query other = ⊥
+IsQuestionOr values query found = ⊥

@@ -38,7 +38,12 @@ impl Model for Session {
     ghost use Rattle.std.specs.Prelude.{List};
     ghost use Rattle.paql_ast.specs.declared.statements.Statement.{Statement};
 
+    ghost use Rattle.std.specs.Coded.{codes};
+    ghost use Rattle.paql_ast.specs.contracts.predicates.Pred as pred;
+
     ghost Value = { List Statement };
+
+    ghost coded = { Prim.hlevel (codes, pred.the_row.coded) };
 
     ghost view = { λ s. s.changes };
 }
