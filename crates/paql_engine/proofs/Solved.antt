@@ -19,7 +19,8 @@ use Rattle.package_judge.specs.declared.packages.Pair.{Pair}
 use Rattle.session_proto.specs.Replies.{ReplyData}
 use Rattle.paql_engine.specs.Answers.{IsOptimal, IsUndecidedAnswer, worth_of}
 use Rattle.paql_engine.specs.Replies as replies
-use Rattle.paql_engine.specs.Searched.{Shows}
+use Rattle.paql_engine.specs.Searched.{Shows, IsCounted}
+use Rattle.search_core.specs.Search.{IsFound}
 use Rattle.linear_form.specs.Translation.{program_of, package_from, IsAnswered, IsCount}
 use Rattle.linear_form.proofs.Legal.{program_legal}
 use Rattle.linear_form.proofs.Translated.{translated, point_of}
@@ -121,3 +122,8 @@ counts_few question x answered is =
     each_few : (counts : List ℕ) → ((i : ℕ) → i < length counts → nat_at counts i ≤ 1000000) → AllByRecursion IsCount counts
     each_few [] h = tt
     each_few (n ∷ counts) h = (h 0 (omega arith), each_few counts (λ (i : ℕ) (l : i < length counts). h (suc i) (omega (arith, l))))
+
+-- so does the point that was found, where one was
+pub found_counted : (question : Question) (best : Option Found) → IsAnswered question → IsFound (program_of question) best → IsCounted best
+found_counted question None answered is = tt
+found_counted question (Some found) answered is = counts_few question found.point answered is.0
