@@ -8,7 +8,7 @@ use Rattle.paql_grammar.specs.Lexemes.{lexeme, lexemes}
 use Rattle.paql_canonical.proofs.Separable.{AreTokens}
 
 -- the word behind a front is taken out by its places
-word_at : (front word more : List ℕ) (start end : ℕ) → length front ≡ start → end ≡ start + length word → take (end - start) (drop start (front ++ (word ++ more))) ≡ word
+pub word_at : (front word more : List ℕ) (start end : ℕ) → length front ≡ start → end ≡ start + length word → take (end - start) (drop start (front ++ (word ++ more))) ≡ word
 word_at front word more start end place past =
     let len : length word ≡ end - start = omega arith in
     ap (λ (w : List ℕ). take (end - start) w) (drop_at front (word ++ more) start place) ∙ take_at word more (end - start) len
