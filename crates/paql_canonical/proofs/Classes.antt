@@ -37,3 +37,14 @@ by_first first kind bytes rest is = to_tests (is_letter first) (is_ascii_digit f
 
 pub is_by_first : (first : ℕ) (kind : Kind) (bytes rest : List ℕ) → IsByFirst first kind (first ∷ bytes) rest → Is kind (first ∷ bytes) rest
 is_by_first first kind bytes rest is = from_tests (is_letter first) (is_ascii_digit first) (first == 39) (first == 34) kind (first ∷ bytes) rest is
+
+-- What holds of the tokens of each class holds of a token.
+pub of_class : (P : Type 0) (kind : Kind) (byte : ℕ) (bytes rest : List ℕ) → Is kind (byte ∷ bytes) rest → (IsWordToken kind (byte ∷ bytes) rest → P) → (IsNumber kind (byte ∷ bytes) rest → P) → (IsText kind (byte ∷ bytes) rest → P) → (IsQuotedName kind (byte ∷ bytes) rest → P) → (IsSign kind (byte ∷ bytes) rest → P) → P
+of_class P kind byte bytes rest is word number text quoted_name sign = by_tests (is_letter byte) (is_ascii_digit byte) (byte == 39) (byte == 34) (by_first byte kind bytes rest is)
+  where
+    by_tests : (letter digit quote double_quote : Bool) → IsBy letter digit quote double_quote kind (byte ∷ bytes) rest → P
+    by_tests true digit quote double_quote of = word of
+    by_tests false true quote double_quote of = number of
+    by_tests false false true double_quote of = text of
+    by_tests false false false true of = quoted_name of
+    by_tests false false false false of = sign of

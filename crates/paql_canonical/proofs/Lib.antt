@@ -13,3 +13,5 @@ pub mod SoundAggregates
 pub mod SoundConditions
 pub mod SoundQuery
 pub mod SoundStatements
+pub mod TextTokens
+pub mod ReadBack

@@ -15,7 +15,7 @@ use Rattle.paql_canonical.proofs.Classes.{IsBy, by_first}
 -- ---- words
 
 -- No entry has the kind.
-abbrev lacks : Kind → List (List ℕ × Kind) → Bool
+abbrev pub lacks : Kind → List (List ℕ × Kind) → Bool
 lacks kind [] = not (sameb the_type kinds.Name kind)
 lacks kind (entry ∷ entries) = not (sameb the_type entry.1 kind) && lacks kind entries
 
@@ -36,8 +36,8 @@ no_word_in (entry ∷ entries) kind none word e =
     by_test true behind apart f = told_apart kind entry.1 apart f
     by_test false behind apart f = behind f
 
--- the same of the keywords
-no_word : (kind : Kind) → lacks kind keywords ≡ true → (word : List ℕ) → kind ≡ word_kind word → ⊥
+-- no word is of a kind that no keyword has
+pub no_word : (kind : Kind) → lacks kind keywords ≡ true → (word : List ℕ) → kind ≡ word_kind word → ⊥
 unfolding word_kind
 no_word kind none word e = no_word_in keywords kind none word e
 

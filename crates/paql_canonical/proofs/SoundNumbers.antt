@@ -1,5 +1,6 @@
 -- The canonical lexemes of numbers are tokens, where a token shows the number.
 use Rattle.std.proofs.Common.{◌≡◌, ℕ, zero, suc, ◌+◌, ◌-◌, ◌^◌, ◌%◌, ◌<◌, ◌≤◌, Bool, true, false, ◌==◌, ◌&&◌, if◌then◌else◌, nat_le, List, [], ◌∷◌, ◌++◌, length, take, drop, replicate, Option, Some, None, refl, sym, ap, subst, ◌∙◌, arith, lit<, ℤ, unsigned_abs, decimal, is_some, append-nil, length-append, length-take, length-drop}
+use Rattle.std.proofs.lemmas.Bool.{and_parts}
 use Rattle.std.proofs.lemmas.Bool.Decides.{Decides-eqb, nat_tests}
 use Rattle.std.proofs.lemmas.Fmt.{decimal_is_IsNumeral_wide, length-decimal-le_wide}
 use Rattle.std.proofs.lemmas.List.{length-replicate}
@@ -26,7 +27,8 @@ use Rattle.paql_grammar.specs.Spellings.{spelled}
 use Rattle.paql_grammar.proofs.NumeralLemmas.{are_digits, whole_small}
 use Rattle.paql_canonical.proofs.Separable.{IsToken, AreTokens}
 use Rattle.paql_canonical.proofs.Sound.{Plain, Sound, Sounds, sound_one, in_back}
-use Rattle.paql_canonical.proofs.SoundWords.{of_class, no_word, no_sign, only_token, both_pass, short_from_test, spelled_token}
+use Rattle.paql_canonical.proofs.Classes.{of_class}
+use Rattle.paql_canonical.proofs.SoundWords.{no_keyword, no_sign, only_token, short_from_test, spelled_token}
 
 -- ---- digits are tokens
 
@@ -92,7 +94,7 @@ is_number : (kind : Kind) (bytes rest : List ℕ) → kind ≡ kinds.Number → 
 is_number kind [] rest e t = absurd t
 is_number kind (byte ∷ bytes) rest e t =
     let word = byte ∷ bytes in
-    of_class (IsNumber kind word rest) kind byte bytes rest t (λ x. absurd (no_word kind word rest (rw e refl) x)) (λ x. x) (λ x. absurd (cc (e, x.meaning))) (λ x. absurd (cc (e, x.meaning))) (λ x. absurd (no_sign kind word rest (rw e refl) x))
+    of_class (IsNumber kind word rest) kind byte bytes rest t (λ x. absurd (no_keyword kind word rest (rw e refl) x)) (λ x. x) (λ x. absurd (cc (e, x.meaning))) (λ x. absurd (cc (e, x.meaning))) (λ x. absurd (no_sign kind word rest (rw e refl) x))
 
 -- no digit is a point
 no_point : (byte : ℕ) → digit_value byte < 10 → (byte == 46) ≡ false
@@ -183,7 +185,7 @@ sound_signed w value d all = behind_sign (is_negative value.mant) value (plain_n
 -- a whole number has at most 18 digits
 whole_below : (text : List ℕ) (value : ℕ) → whole_in text ≡ Some value → value < 10 ^ 18
 whole_below text value e =
-    let tests = both_pass (all_ascii_digits text) (nat_le (length text) 18) (test_passes (all_ascii_digits text && nat_le (length text) 18) (Some (digits_value 10 text)) value e) in
+    let tests = and_parts (all_ascii_digits text) (nat_le (length text) 18) (test_passes (all_ascii_digits text && nat_le (length text) 18) (Some (digits_value 10 text)) value e) in
     let same = some_is (passed (all_ascii_digits text && nat_le (length text) 18) (Some (digits_value 10 text)) value e) in
     omega (arith, whole_small text (are_digits text tests.0) (short_from_test (length text) 18 tests.1), same)
 

@@ -1,12 +1,12 @@
 -- The canonical lexemes of words, signs, names and texts are tokens.
 use Rattle.std.proofs.Common.{◌≡◌, ℕ, suc, ◌-◌, ◌≤◌, Bool, true, false, not, ◌||◌, ◌&&◌, ◌==◌, if◌then◌else◌, nat_le, IsFalse, IsUtf8, List, [], ◌∷◌, ◌++◌, length, length-append, Option, Some, None, refl, sym, ap, subst, ◌∙◌, arith}
 use Rattle.std.proofs.Math.Seq.{take-append_seam}
+use Rattle.std.proofs.lemmas.Bool.{and_parts}
 use Rattle.std.proofs.lemmas.Bool.Decides.{nat_tests}
-use Rattle.std.specs.Str.{str_eq_ignore_ascii_case}
 use Rattle.std.specs.Char.{is_ascii_digit, is_ascii_alphanumeric}
 use denote.Enum.Bare.{sameb, same_true}
 use Rattle.paql_lexer.specs.Keywords.{keywords, kind_in, word_kind}
-use Rattle.paql_lexer.specs.Lexical.{AllIn, Is, IsWord, IsWordToken, IsQuotedName, IsNumber, IsText, IsSign, doubled, is_letter, short_sign, long_sign, sign_of}
+use Rattle.paql_lexer.specs.Lexical.{AllIn, Is, IsWord, IsWordToken, IsText, IsSign, doubled, is_letter, short_sign, long_sign, sign_of}
 use Rattle.paql_lexer.specs.contracts.vocabulary.Kind.{the_type}
 use Rattle.paql_lexer.specs.declared.vocabulary.Kind.{Kind}
 use Rattle.paql_lexer.specs.declared.vocabulary.Kind.TheVariants as kinds
@@ -15,6 +15,8 @@ use Rattle.paql_grammar.specs.Lexemes.{Lexeme, is, inside, undoubled, name_of, c
 use Rattle.paql_grammar.specs.Spellings as print
 use Rattle.paql_grammar.specs.Spellings.{spelled}
 use Rattle.paql_grammar.proofs.CanonicalLeaves.{spells_content}
+use Rattle.paql_canonical.proofs.Classes.{of_class}
+use Rattle.paql_canonical.proofs.Marks.{lacks, no_word}
 use Rattle.paql_canonical.proofs.Separable.{IsToken, AreTokens}
 use Rattle.paql_canonical.proofs.Sound.{Plain, Sounds, sound_one}
 
@@ -47,18 +49,14 @@ abbrev is_sign : Kind → List ℕ → Bool
 is_sign kind [] = false
 is_sign kind (byte ∷ bytes) = is_mark byte && shows_kind kind (sign_of (byte ∷ bytes))
 
--- what two tests tell together
-pub both_pass : (a b : Bool) → (a && b) ≡ true → (a ≡ true) × (b ≡ true)
-both_pass true b e = (refl, e)
-both_pass false b e = absurd (both_ways e refl)
-
+-- a test that doesn't pass fails
 fails : (a : Bool) → not a ≡ true → a ≡ false
 fails true e = absurd (both_ways e refl)
 fails false e = refl
 
 all_in : (test : ℕ → Bool) (bytes : List ℕ) → all_pass test bytes ≡ true → AllIn test bytes
 all_in test [] e = tt
-all_in test (byte ∷ bytes) e = let both = both_pass (test byte) (all_pass test bytes) e in (both.0, all_in test bytes both.1)
+all_in test (byte ∷ bytes) e = let both = and_parts (test byte) (all_pass test bytes) e in (both.0, all_in test bytes both.1)
 
 pub short_from_test : (n m : ℕ) → nat_le n m ≡ true → n ≤ m
 short_from_test n m e = grind (arith, nat_tests)
@@ -70,9 +68,9 @@ keyword_token kind [] e = absurd (both_ways e refl)
 keyword_token kind (byte ∷ bytes) e =
     let word = byte ∷ bytes in
     let means = sameb the_type kind (kind_in keywords word) in
-    let letter = both_pass (is_letter byte) (all_pass goes_on word && (nat_le (length word) 64 && means)) e in
-    let run = both_pass (all_pass goes_on word) (nat_le (length word) 64 && means) letter.1 in
-    let short = both_pass (nat_le (length word) 64) means run.1 in
+    let letter = and_parts (is_letter byte) (all_pass goes_on word && (nat_le (length word) 64 && means)) e in
+    let run = and_parts (all_pass goes_on word) (nat_le (length word) 64 && means) letter.1 in
+    let short = and_parts (nat_le (length word) 64) means run.1 in
     rw letter.0 (record {
       is_word = record { first = letter.0; all = all_in goes_on word run.0; short = short_from_test (length word) 64 short.0 };
       ends = tt;
@@ -87,10 +85,10 @@ shown_kind kind (Some other) e = ap (λ (z : Kind). Some z) (sym (same_true the_
 sign_token : (kind : Kind) (bytes : List ℕ) → is_sign kind bytes ≡ true → Is kind bytes []
 sign_token kind [] e = absurd (both_ways e refl)
 sign_token kind (byte ∷ bytes) e =
-    let both = both_pass (is_mark byte) (shows_kind kind (sign_of (byte ∷ bytes))) e in
-    let letter = both_pass (not (is_letter byte)) (not (is_ascii_digit byte) && (not (byte == 39) && not (byte == 34))) both.0 in
-    let digit = both_pass (not (is_ascii_digit byte)) (not (byte == 39) && not (byte == 34)) letter.1 in
-    let quotes = both_pass (not (byte == 39)) (not (byte == 34)) digit.1 in
+    let both = and_parts (is_mark byte) (shows_kind kind (sign_of (byte ∷ bytes))) e in
+    let letter = and_parts (not (is_letter byte)) (not (is_ascii_digit byte) && (not (byte == 39) && not (byte == 34))) both.0 in
+    let digit = and_parts (not (is_ascii_digit byte)) (not (byte == 39) && not (byte == 34)) letter.1 in
+    let quotes = and_parts (not (byte == 39)) (not (byte == 34)) digit.1 in
     rw (fails (is_letter byte) letter.0, fails (is_ascii_digit byte) digit.0, fails (byte == 39) quotes.0, fails (byte == 34) quotes.1) (record { sign = shown_kind kind (sign_of (byte ∷ bytes)) both.1; longest = tt })
 
 -- The spelling of the kind is a keyword or a sign.
@@ -114,31 +112,11 @@ pub plain_word : (kind : Kind) → is_plain kind ≡ true → Plain (spelled kin
 plain_word kind e =
     let minus = is kinds.Minus (spelled kind) in
     let point = is kinds.Dot (spelled kind) in
-    let spells = both_pass (is_spelled kind) (not minus && not point) e in
-    let both = both_pass (not minus) (not point) spells.1 in
+    let spells = and_parts (is_spelled kind) (not minus && not point) e in
+    let both = and_parts (not minus) (not point) spells.1 in
     record { token = spelled_token kind spells.0; minus = fails minus both.0; point = fails point both.1 }
 
--- ---- the classes of tokens
-
--- What holds of the tokens of each class holds of a token.
-pub of_class : (P : Type 0) (kind : Kind) (byte : ℕ) (bytes rest : List ℕ) → Is kind (byte ∷ bytes) rest → (IsWordToken kind (byte ∷ bytes) rest → P) → (IsNumber kind (byte ∷ bytes) rest → P) → (IsText kind (byte ∷ bytes) rest → P) → (IsQuotedName kind (byte ∷ bytes) rest → P) → (IsSign kind (byte ∷ bytes) rest → P) → P
-of_class P kind byte bytes rest t word number text quoted sign = by_letter (is_letter byte) refl
-  where
-    by_name_quote : is_letter byte ≡ false → is_ascii_digit byte ≡ false → (byte == 39) ≡ false → (b : Bool) → (byte == 34) ≡ b → P
-    by_name_quote letter digit quote true e = quoted (rw (letter, digit, quote, e) at t)
-    by_name_quote letter digit quote false e = sign (rw (letter, digit, quote, e) at t)
-
-    by_quote : is_letter byte ≡ false → is_ascii_digit byte ≡ false → (b : Bool) → (byte == 39) ≡ b → P
-    by_quote letter digit true e = text (rw (letter, digit, e) at t)
-    by_quote letter digit false e = by_name_quote letter digit e (byte == 34) refl
-
-    by_digit : is_letter byte ≡ false → (b : Bool) → is_ascii_digit byte ≡ b → P
-    by_digit letter true e = number (rw (letter, e) at t)
-    by_digit letter false e = by_quote letter e (byte == 39) refl
-
-    by_letter : (b : Bool) → is_letter byte ≡ b → P
-    by_letter true e = word (rw e at t)
-    by_letter false e = by_digit e (is_ascii_digit byte) refl
+-- ---- what no sign and no keyword is
 
 -- the kinds of names, numbers and texts
 abbrev is_literal : Option Kind → Bool
@@ -173,34 +151,9 @@ sign_is_none (first ∷ (second ∷ (third ∷ bytes))) = refl
 pub no_sign : (kind : Kind) (word rest : List ℕ) → is_literal (Some kind) ≡ true → IsSign kind word rest → ⊥
 no_sign kind word rest literal sign = both_ways literal (sym (ap is_literal sign.sign) ∙ sign_is_none word)
 
--- the kinds of words
-abbrev is_word_kind : Kind → Bool
-is_word_kind kinds.QuotedName = false
-is_word_kind kinds.Number = false
-is_word_kind kinds.Text = false
-is_word_kind kind = true
-
-abbrev are_word_kinds : List (List ℕ × Kind) → Bool
-are_word_kinds [] = true
-are_word_kinds (entry ∷ entries) = is_word_kind entry.1 && are_word_kinds entries
-
-kind_in_is : (entries : List (List ℕ × Kind)) (word : List ℕ) → are_word_kinds entries ≡ true → is_word_kind (kind_in entries word) ≡ true
-kind_in_is [] word e = refl
-kind_in_is (entry ∷ entries) word e =
-    let both = both_pass (is_word_kind entry.1) (are_word_kinds entries) e in
-    found (str_eq_ignore_ascii_case entry.0 word) both.0 (kind_in_is entries word both.1)
-  where
-    found : (b : Bool) → is_word_kind entry.1 ≡ true → is_word_kind (kind_in entries word) ≡ true → is_word_kind (if b then entry.1 else kind_in entries word) ≡ true
-    found true here later = here
-    found false here later = later
-
-word_kind_is : (word : List ℕ) → is_word_kind (word_kind word) ≡ true
-unfolding word_kind
-word_kind_is word = kind_in_is keywords word refl
-
--- a word is no quoted name, no number and no text
-pub no_word : (kind : Kind) (word rest : List ℕ) → is_word_kind kind ≡ false → IsWordToken kind word rest → ⊥
-no_word kind word rest other t = both_ways (ap is_word_kind t.meaning ∙ word_kind_is word) other
+-- a word is of none of the kinds that no keyword has
+pub no_keyword : (kind : Kind) (word rest : List ℕ) → lacks kind keywords ≡ true → IsWordToken kind word rest → ⊥
+no_keyword kind word rest none t = no_word kind none word t.meaning
 
 -- ---- names
 
@@ -221,7 +174,7 @@ quoted_word : (kind : Kind) (bytes rest : List ℕ) → kind ≡ kinds.QuotedNam
 quoted_word kind [] rest e t = absurd t
 quoted_word kind (byte ∷ bytes) rest e t =
     let word = byte ∷ bytes in
-    of_class (IsWord (inside word)) kind byte bytes rest t (λ x. absurd (no_word kind word rest (rw e refl) x)) (λ x. absurd (cc (e, x.meaning))) (λ x. absurd (cc (e, x.meaning)))
+    of_class (IsWord (inside word)) kind byte bytes rest t (λ x. absurd (no_keyword kind word rest (rw e refl) x)) (λ x. absurd (cc (e, x.meaning))) (λ x. absurd (cc (e, x.meaning)))
     (λ x. subst IsWord (sym (ap inside x.quotes ∙ inside_quotes 34 34 x.name)) x.is_word) (λ x. absurd (no_sign kind word rest (rw e refl) x))
 
 -- a name is shown by a word
@@ -275,7 +228,7 @@ text_in_quotes : (kind : Kind) (bytes rest : List ℕ) → kind ≡ kinds.Text �
 text_in_quotes kind [] rest e t = absurd t
 text_in_quotes kind (byte ∷ bytes) rest e t =
     let word = byte ∷ bytes in
-    of_class (IsText kind word rest) kind byte bytes rest t (λ x. absurd (no_word kind word rest (rw e refl) x)) (λ x. absurd (cc (e, x.meaning))) (λ x. x) (λ x. absurd (cc (e, x.meaning))) (λ x. absurd (no_sign kind word rest (rw e refl) x))
+    of_class (IsText kind word rest) kind byte bytes rest t (λ x. absurd (no_keyword kind word rest (rw e refl) x)) (λ x. absurd (cc (e, x.meaning))) (λ x. x) (λ x. absurd (cc (e, x.meaning))) (λ x. absurd (no_sign kind word rest (rw e refl) x))
 
 -- the lexeme of a text shows its content
 content_shown : (value : List ℕ) → content_of (print.quoted value) ≡ Some value

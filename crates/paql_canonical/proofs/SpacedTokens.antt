@@ -1,6 +1,5 @@
 -- The spaced text of lexemes that stay apart is cut into just these lexemes.
-use Rattle.std.proofs.Common.{◌≡◌, ℕ, ◌+◌, ◌-◌, true, List, [], ◌∷◌, ◌++◌, length, take, refl, sym, ap, ◌∙◌, arith, append_assoc, length-append}
-use Rattle.std.proofs.lemmas.List.{take_at, drop_at}
+use Rattle.std.proofs.Common.{◌≡◌, ℕ, ◌+◌, true, List, [], ◌∷◌, ◌++◌, length, refl, sym, ap, ◌∙◌, arith, append_assoc, length-append}
 use Rattle.paql_lexer.specs.Lexical.{Is, IsGap}
 use Rattle.paql_lexer.specs.Tokens.{Reaches, IsTokens}
 use Rattle.paql_lexer.specs.declared.lexer.Token.{Token}
@@ -9,6 +8,7 @@ use Rattle.paql_grammar.specs.Lexemes.{Lexeme, lexeme, lexemes}
 use Rattle.paql_grammar.specs.Spacing.{touches, spaced, spaced_behind}
 use Rattle.paql_canonical.proofs.Separable.{Separable}
 use Rattle.paql_canonical.proofs.Pieces.{gap_of, gap_is, gap_and, gap_at_end}
+use Rattle.paql_canonical.proofs.TextTokens.{word_at}
 use Rattle.paql_canonical.proofs.Touching.{in_place, no_piece_at}
 
 -- From the place on the text is cut into tokens, which are these lexemes of the text with what stands in front.
@@ -22,9 +22,7 @@ token_at kind start word = record { kind = kind; start = start; end = start + le
 
 -- its bytes are the word
 lexeme_at : (t : Lexeme) (front more : List ℕ) (start : ℕ) → length front ≡ start → lexeme (front ++ (t.bytes ++ more)) (token_at t.kind start t.bytes) ≡ t
-lexeme_at t front more start place =
-    let len : length t.bytes ≡ (start + length t.bytes) - start = omega arith in
-    ap (λ (w : List ℕ). record { kind = t.kind; bytes = w }) (ap (λ (w : List ℕ). take ((start + length t.bytes) - start) w) (drop_at front (t.bytes ++ more) start place) ∙ take_at t.bytes more ((start + length t.bytes) - start) len)
+lexeme_at t front more start place = ap (λ (w : List ℕ). record { kind = t.kind; bytes = w }) (word_at front t.bytes more start (start + length t.bytes) place refl)
 
 -- one lexeme in front of a cut text
 cut_more : (at : ℕ) (gap : List ℕ) (t : Lexeme) (more : List ℕ) (later : List Lexeme) (text : List ℕ) → text ≡ gap ++ (t.bytes ++ more) → IsGap gap (t.bytes ++ more) → Is t.kind t.bytes more → IsCut (at + length gap + length t.bytes) more later → IsCut at text (t ∷ later)

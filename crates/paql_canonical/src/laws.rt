@@ -1,7 +1,12 @@
-//! The law of canonical texts. It has an empty body: its clause is the law.
-ghost use Rattle.paql_canonical.specs.Texts.{CanonicalIsRead};
+//! The laws of canonical texts. Each has an empty body: its clause is the law.
+ghost use Rattle.paql_canonical.specs.Texts.{CanonicalIsRead, CanonicalIsOne};
 
 /// The canonical text of a text's statement is a text of the same statement, and of no other.
 pub fn canonical_is_read()
     ensures { CanonicalIsRead }
+{}
+
+/// Different statements have different canonical texts, so the canonical text of a statement can stand for it.
+pub fn canonical_is_one()
+    ensures { CanonicalIsOne }
 {}
