@@ -1,6 +1,6 @@
 use Rattle.std.proofs.Common.{length}
-use Rattle.paql.proofs.Turns.{IsWriting}
-use Rattle.paql.proofs.streams.put_all.Given as goal
+use Rattle.session_server.proofs.Turns.{IsWriting}
+use Rattle.session_server.proofs.streams.put_all.Given as goal
 
 abbrev pub invariant-loop-rest : goal.invariant-loop-rest
 invariant-loop-rest g l = IsWriting (g.K.Sink.written l.fn.sink) (g.K.Sink.written l.sink)

@@ -1,14 +1,7 @@
--- What the loops of reading and writing keep.
+-- What the loop of writing keeps.
 use Rattle.std.proofs.Common.{◌≡◌, ℕ, ◌≤◌, ◌<◌, List, ◌++◌, length, take, drop, Option, sym, ap, ◌∙◌, append_assoc, take-append-drop, arith}
 use Rattle.std.specs.Io.KnownBytes.{Consumes, Appends}
 use Rattle.std.proofs.KnownBytes.{Appends-trans}
-
--- the bytes so far came from the source, at least one a turn
-pub record IsReading (old now : Option (List ℕ)) (before faults : ℕ) (bytes : List ℕ) (turn most : ℕ) : Type 0 where
-  pub taken : Consumes old now bytes
-  pub later : before ≤ faults
-  pub short : length bytes < most
-  pub grows : turn ≤ length bytes
 
 -- a front of the text was written, and the rest is left
 pub record IsWriting (old now : Option (List ℕ)) (before faults : ℕ) (text rest : List ℕ) : Type 0 where
