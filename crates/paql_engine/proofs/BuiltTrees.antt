@@ -1,6 +1,7 @@
 -- Lists whose items agree one by one, as a loop goes over one of them, and the numbers that literals and terms hold.
-use Rattle.std.proofs.Common.{◌≡◌, ◌≢◌, ◌↔◌, ℕ, zero, suc, ◌+◌, ◌<◌, Bool, true, false, IsTrue, List, [], ◌∷◌, ◌++◌, take, length, get_or, refl, sym, ◌∙◌, ap, subst, arith, ℤ, Option, None, Some, MatchOption}
+use Rattle.std.proofs.Common.{◌≡◌, ◌≢◌, ◌↔◌, ℕ, zero, suc, ◌+◌, ◌^◌, ◌==◌, ◌<◌, ◌≤◌, Bool, true, false, IsTrue, List, [], ◌∷◌, ◌++◌, take, length, get_or, refl, sym, ◌∙◌, ap, subst, arith, ℤ, codes, Option, None, Some, Result, Ok, Err, IfOk, MatchOption}
 use Rattle.std.specs.List.{AllByRecursion}
+use Rattle.std.specs.declared.alloc.AllocError.{AllocError}
 use Rattle.std.proofs.lemmas.List.{take_more}
 use Rattle.pq_base.specs.declared.scaled.Scaled.{Scaled}
 use Rattle.schema_types.specs.declared.Lit.{Lit}
@@ -9,11 +10,16 @@ use Rattle.paql_ast.specs.declared.aggregates.Term.{Term}
 use Rattle.paql_ast.specs.declared.aggregates.Term.TheVariants as terms
 use Rattle.paql_ast.specs.declared.aggregates.Agg.{Agg}
 use Rattle.paql_ast.specs.declared.aggregates.SumItem.{SumItem}
+use Rattle.paql_ast.specs.declared.queries.Conjunct.{Conjunct}
 use Rattle.paql_ast.specs.declared.queries.Goal.{Goal}
-use Rattle.linear_form.specs.Questions.{InRange}
+use Rattle.paql_ast.specs.declared.queries.Query.{Query}
+use Rattle.paql_ast.specs.declared.statements.Statement.{Statement}
+use Rattle.paql_ast.specs.declared.statements.Statement.TheVariants as statements
+use Rattle.linear_form.specs.Questions.{InRange, HasLimit, AreItems, IsAsked, IsBudget}
+use Rattle.linear_form.specs.declared.query.BoundQuery.{BoundQuery}
 use Rattle.linear_form.specs.declared.query.Measure.{Measure}
 use Rattle.linear_form.specs.declared.query.Measure.TheVariants as measures
-use Rattle.paql_engine.specs.Built.{AreAll, IsWhole, IsRow, IsNumberTerm, plain_of, item_of, the_goal}
+use Rattle.paql_engine.specs.Built.{AreAll, IsWhole, IsRow, IsInsert, IsNumberTerm, IsConjunct, IsBudgetOf, IsTreeOf, HasNames, HasNoMore, plain_of, item_of, the_goal}
 
 -- lists that agree still do with one more item each, where the items agree
 agree_more : {A B : Type 0} (Agree : A → B → Type 0) (xs : List A) (ys : List B) (x : A) (y : B) → AreAll Agree xs ys → Agree x y → AreAll Agree (xs ++ x ∷ []) (ys ++ y ∷ [])
@@ -98,3 +104,55 @@ is_goal_where goal parts (Some measures.Count) told maximum same one tells = (
 is_goal_where goal parts (Some measures.Sum) told maximum same one tells = (
     λ (true_is : IsTrue told). subst (λ (maximize : Bool). record { maximize = maximize; parts = goal.parts } ≡ the_goal) (sym maximum) (ap (λ (items : List SumItem). record { maximize = true; parts = items }) (sym same ∙ one)),
     λ (is : goal ≡ the_goal). tells.1 refl)
+
+-- lists that agree are equally long
+pub length_agree : {A B : Type 0} (Agree : A → B → Type 0) (xs : List A) (ys : List B) → AreAll Agree xs ys → length xs ≡ length ys
+length_agree Agree [] [] all = refl
+length_agree Agree [] (y ∷ ys) all = absurd all
+length_agree Agree (x ∷ xs) [] all = absurd all
+length_agree Agree (x ∷ xs) (y ∷ ys) all = omega (arith, length_agree Agree xs ys all.1)
+
+-- what the test of emptiness tells of a list
+pub some_where : {A : Type 0} (xs : List A) → false ≡ (length xs == 0) → 1 ≤ length xs
+some_where [] told = absurd cc
+some_where (x ∷ xs) told = omega arith
+
+pub none_where : {A : Type 0} (xs : List A) → true ≡ (length xs == 0) → length xs ≡ 0
+none_where xs told = grind arith
+
+-- what is said of rows is said of the statement that inserts them
+pub of_rows : (t : Statement) (table : List ℕ) (rows seen : List (List Lit)) (result : Result (Option (List ℤ)) AllocError) → t ≡ statements.Insert table rows → table ≡ codes "T" → seen ≡ rows → 1 ≤ length rows
+    → IfOk result (λ found. MatchOption found ((values : List ℤ) → AllByRecursion InRange values → ¬ AreAll IsRow seen values) (λ values. AreAll IsRow seen values × AllByRecursion InRange values))
+    → IfOk result (λ found. MatchOption found ((values : List ℤ) → AreItems InRange values → ¬ IsInsert t values) (λ values. IsInsert t values × AreItems InRange values))
+of_rows t table rows seen (Err fault) is named same some told = told
+of_rows t table rows seen (Ok None) is named same some none = λ (values : List ℤ) (valid : AreItems InRange values) (found : IsInsert t values).
+    let tree = found.tree in
+    let rows_are : found.rows ≡ seen = cc in
+    none values valid.each (subst (λ (some_rows : List (List Lit)). AreAll IsRow some_rows values) rows_are found.each)
+of_rows t table rows seen (Ok (Some values)) is named same some told =
+    let each : AreAll IsRow rows values = subst (λ (some_rows : List (List Lit)). AreAll IsRow some_rows values) same told.0 in
+    (record { rows = rows; tree = is ∙ ap (λ (name : List ℕ). statements.Insert name rows) named; each = each },
+    record { some = omega (arith, length_agree IsRow rows values each); each = told.1 })
+
+-- a tree is that of a query where its names, clauses and conditions are
+pub tree_is : (tree : Query) (trees : List Conjunct) (query : BoundQuery) → HasNames tree → HasNoMore tree → tree.goal ≡ Some the_goal → trees ≡ tree.conjuncts → 1 ≤ length trees → length trees ≤ 31
+    → (tree.repeat ≡ Some query.repeat) × (query.repeat ≤ 10 ^ 12) → IsBudgetOf tree.budget query.budget × IsBudget query.budget
+    → AreAll IsConjunct trees query.conjuncts × AllByRecursion HasLimit query.conjuncts → IsTreeOf tree query × IsAsked query
+tree_is tree trees query names no_more goal same some few repeat budget conjuncts =
+    let long = length_agree IsConjunct trees query.conjuncts conjuncts.0 in
+    (record {
+      names = names; no_more = no_more; goal = goal; repeat = repeat.0;
+      conjuncts = subst (λ (some_trees : List Conjunct). AreAll IsConjunct some_trees query.conjuncts) same conjuncts.0;
+      budget = budget.0;
+    }, record {
+      repeat = repeat.1;
+      conjuncts = record { some = omega arith; each = conjuncts.1 };
+      few = omega arith;
+      budget = budget.1;
+    })
+
+-- a tree of a query has at least one condition, and not more than 31
+pub conditions_of : (tree : Query) (query : BoundQuery) → IsAsked query → IsTreeOf tree query → (1 ≤ length tree.conjuncts) × (length tree.conjuncts ≤ 31)
+conditions_of tree query asked is =
+    let long = length_agree IsConjunct tree.conjuncts query.conjuncts is.conjuncts in
+    (omega (arith, asked.conjuncts.some), omega (arith, asked.few))
