@@ -1,4 +1,4 @@
-use Rattle.std.proofs.Common.{Some, refl, arith}
+use Rattle.std.proofs.Common.{refl, arith}
 use Rattle.linear_form.specs.Questions.{IsAsked}
 use Rattle.linear_form.specs.declared.query.BoundQuery.{BoundQuery}
 use Rattle.paql_engine.specs.Built.{IsTreeOf}
