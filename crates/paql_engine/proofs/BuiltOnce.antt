@@ -36,6 +36,7 @@ agree_once Agree once (x ∷ xs) (y ∷ ys) (z ∷ zs) one other =
 pub value_once : {number : Scaled} {a b : ℤ} → IsWhole number a → IsWhole number b → a ≡ b
 value_once one other = sym one.digits ∙ other.digits
 
+-- a row and a term hold one number each
 row_once : (row : List Lit) (a b : ℤ) → IsRow row a → IsRow row b → a ≡ b
 row_once row a b one other =
     let same : other.number ≡ one.number = cc in
@@ -57,6 +58,7 @@ signed_once (negsuc m) (negsuc n) sign magnitude = ap negsuc (omega (arith, magn
 abbrev limit_item : ℤ → Term → SumItem
 limit_item limit term = record { minus = is_negative limit; term = term }
 
+-- a sum is the limit of one number
 limit_once : (items : List SumItem) (a b : ℤ) → IsLimit items a → IsLimit items b → a ≡ b
 limit_once items a b one other =
     let one_alone = one.alone in
@@ -69,12 +71,14 @@ limit_once items a b one other =
 
 -- ---- conditions
 
+-- an operator is that of one side
 side_once : (one other : Side) → op_of one ≡ op_of other → one ≡ other
 side_once sides.AtMost sides.AtMost same = refl
 side_once sides.AtMost sides.AtLeast same = absurd cc
 side_once sides.AtLeast sides.AtMost same = absurd cc
 side_once sides.AtLeast sides.AtLeast same = refl
 
+-- the condition of these parts
 abbrev conjunct : Measure → Side → ℤ → BoundConjunct
 conjunct measure side limit = record { measure = measure; side = side; limit = limit }
 
@@ -83,6 +87,7 @@ conjunct_with : (m n : Measure) (s t : Side) (a b : ℤ) → m ≡ n → s ≡ t
 conjunct_with m n s t a b measure_is side_is limit_is =
     ap (λ (x : Measure). conjunct x s a) measure_is ∙ ap (λ (x : Side). conjunct n x a) side_is ∙ ap (λ (x : ℤ). conjunct n t x) limit_is
 
+-- a tree is that of one condition
 conjunct_once : (tree : Conjunct) (a b : BoundConjunct) → IsConjunct tree a → IsConjunct tree b → a ≡ b
 conjunct_once tree a b one other =
     let one_is = one.compares in
@@ -97,10 +102,12 @@ conjunct_once tree a b one other =
 
 -- ---- statements
 
+-- a clause means one budget
 budget_once : (written : Option ℕ) (a b : ℕ) → IsBudgetOf written a → IsBudgetOf written b → a ≡ b
 budget_once None a b one other = one ∙ sym other
 budget_once (Some budget) a b one other = one ∙ sym other
 
+-- the query of these parts
 abbrev query : ℕ → List BoundConjunct → ℕ → BoundQuery
 query repeat conjuncts budget = record { repeat = repeat; conjuncts = conjuncts; budget = budget }
 
@@ -109,6 +116,7 @@ query_with : (k l : ℕ) (xs ys : List BoundConjunct) (a b : ℕ) → k ≡ l �
 query_with k l xs ys a b repeat_is conjuncts_are budget_is =
     ap (λ (x : ℕ). query x xs a) repeat_is ∙ ap (λ (x : List BoundConjunct). query l x a) conjuncts_are ∙ ap (λ (x : ℕ). query l ys x) budget_is
 
+-- a tree is that of one query
 tree_once : (tree : Query) (a b : BoundQuery) → IsTreeOf tree a → IsTreeOf tree b → a ≡ b
 tree_once tree a b one other =
     let one_is = one.repeat in

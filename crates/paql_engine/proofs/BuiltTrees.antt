@@ -96,14 +96,17 @@ pub is_goal_where : (goal : Goal) (parts : List SumItem) (found : Option Measure
     → MatchOption found ((measure : Measure) → parts ≢ item_of measure ∷ []) (λ measure. parts ≡ item_of measure ∷ [])
     → (IsTrue told ↔ (found ≡ Some measures.Sum)) → (IsTrue told ↔ (goal ≡ the_goal))
 is_goal_where goal parts None told maximum same none tells = (
-    λ (true_is : IsTrue told). absurd (let found_is = tells.0 true_is in cc),
-    λ (is : goal ≡ the_goal). absurd (none measures.Sum (same ∙ ap (λ (g : Goal). g.parts) is)))
+  λ (true_is : IsTrue told). absurd (let found_is = tells.0 true_is in cc),
+  λ (is : goal ≡ the_goal). absurd (none measures.Sum (same ∙ ap (λ (g : Goal). g.parts) is)),
+)
 is_goal_where goal parts (Some measures.Count) told maximum same one tells = (
-    λ (true_is : IsTrue told). absurd (let found_is = tells.0 true_is in cc),
-    λ (is : goal ≡ the_goal). absurd (let parts_are = ap (λ (g : Goal). g.parts) is in let item_is : item_of measures.Count ≡ item_of measures.Sum = cc in let measure_is = item_once measures.Count measures.Sum item_is in cc))
+  λ (true_is : IsTrue told). absurd (let found_is = tells.0 true_is in cc),
+  λ (is : goal ≡ the_goal). absurd (let parts_are = ap (λ (g : Goal). g.parts) is in let item_is : item_of measures.Count ≡ item_of measures.Sum = cc in let measure_is = item_once measures.Count measures.Sum item_is in cc),
+)
 is_goal_where goal parts (Some measures.Sum) told maximum same one tells = (
-    λ (true_is : IsTrue told). subst (λ (maximize : Bool). record { maximize = maximize; parts = goal.parts } ≡ the_goal) (sym maximum) (ap (λ (items : List SumItem). record { maximize = true; parts = items }) (sym same ∙ one)),
-    λ (is : goal ≡ the_goal). tells.1 refl)
+  λ (true_is : IsTrue told). subst (λ (maximize : Bool). record { maximize = maximize; parts = goal.parts } ≡ the_goal) (sym maximum) (ap (λ (items : List SumItem). record { maximize = true; parts = items }) (sym same ∙ one)),
+  λ (is : goal ≡ the_goal). tells.1 refl,
+)
 
 -- lists that agree are equally long
 pub length_agree : {A B : Type 0} (Agree : A → B → Type 0) (xs : List A) (ys : List B) → AreAll Agree xs ys → length xs ≡ length ys
@@ -130,26 +133,32 @@ of_rows t table rows seen (Ok None) is named same some none = λ (values : List 
     let rows_are : found.rows ≡ seen = cc in
     none values valid.each (subst (λ (some_rows : List (List Lit)). AreAll IsRow some_rows values) rows_are found.each)
 of_rows t table rows seen (Ok (Some values)) is named same some told =
-    let each : AreAll IsRow rows values = subst (λ (some_rows : List (List Lit)). AreAll IsRow some_rows values) same told.0 in
-    (record { rows = rows; tree = is ∙ ap (λ (name : List ℕ). statements.Insert name rows) named; each = each },
-    record { some = omega (arith, length_agree IsRow rows values each); each = told.1 })
+    let each : AreAll IsRow rows values = subst (λ (some_rows : List (List Lit)). AreAll IsRow some_rows values) same told.0 in (
+      record { rows = rows; tree = is ∙ ap (λ (name : List ℕ). statements.Insert name rows) named; each = each },
+      record { some = omega (arith, length_agree IsRow rows values each); each = told.1 },
+    )
 
 -- a tree is that of a query where its names, clauses and conditions are
 pub tree_is : (tree : Query) (trees : List Conjunct) (query : BoundQuery) → HasNames tree → HasNoMore tree → tree.goal ≡ Some the_goal → trees ≡ tree.conjuncts → 1 ≤ length trees → length trees ≤ 31
     → (tree.repeat ≡ Some query.repeat) × (query.repeat ≤ 10 ^ 12) → IsBudgetOf tree.budget query.budget × IsBudget query.budget
     → AreAll IsConjunct trees query.conjuncts × AllByRecursion HasLimit query.conjuncts → IsTreeOf tree query × IsAsked query
 tree_is tree trees query names no_more goal same some few repeat budget conjuncts =
-    let long = length_agree IsConjunct trees query.conjuncts conjuncts.0 in
-    (record {
-      names = names; no_more = no_more; goal = goal; repeat = repeat.0;
-      conjuncts = subst (λ (some_trees : List Conjunct). AreAll IsConjunct some_trees query.conjuncts) same conjuncts.0;
-      budget = budget.0;
-    }, record {
-      repeat = repeat.1;
-      conjuncts = record { some = omega arith; each = conjuncts.1 };
-      few = omega arith;
-      budget = budget.1;
-    })
+    let long = length_agree IsConjunct trees query.conjuncts conjuncts.0 in (
+      record {
+        names = names;
+        no_more = no_more;
+        goal = goal;
+        repeat = repeat.0;
+        conjuncts = subst (λ (some_trees : List Conjunct). AreAll IsConjunct some_trees query.conjuncts) same conjuncts.0;
+        budget = budget.0;
+      },
+      record {
+        repeat = repeat.1;
+        conjuncts = record { some = omega arith; each = conjuncts.1 };
+        few = omega arith;
+        budget = budget.1;
+      },
+    )
 
 -- a tree of a query has at least one condition, and not more than 31
 pub conditions_of : (tree : Query) (query : BoundQuery) → IsAsked query → IsTreeOf tree query → (1 ≤ length tree.conjuncts) × (length tree.conjuncts ≤ 31)

@@ -10,7 +10,7 @@ pub returns-then-is_empty : goal.returns-then-is_empty
 returns-then-is_empty c = λ (query : BoundQuery) (asked : IsAsked query) (is : IsTreeOf c.args.tree.now query).
     let conditions = rw (← c.as_slice-trees.ensures) at (conditions_of c.args.tree.now query asked is) in
     absurd (elim c.then-is_empty.branch [
-      then-is_empty-via-then-is_empty w ↦ omega (arith, none_where c.as_slice-trees.result.now w.if-is_empty.ensures, conditions)
+      | then-is_empty-via-then-is_empty w ↦ omega (arith, none_where c.as_slice-trees.result.now w.if-is_empty.ensures, conditions)
       | then-is_empty-via-else-is_empty+then-trees-gt-MOST_CONJUNCTS w ↦ omega (arith, w.if-trees-gt-MOST_CONJUNCTS.true, conditions)
     ])
 
