@@ -5,7 +5,7 @@ use Rattle.paql_lexer.specs.declared.vocabulary.Kind.{Kind}
 use Rattle.paql_lexer.specs.declared.vocabulary.Kind.TheVariants as kinds
 use Rattle.paql_lexer.specs.Lexical.{doubled}
 use Rattle.paql_grammar.specs.Lexemes.{Lexeme, is}
-use Rattle.paql_grammar.specs.Spacing.{ends_term, touches, spaced_behind, spaced}
+use Rattle.paql_grammar.specs.Spacing.{calls, ends_term, touches, spaced_behind, spaced}
 use Rattle.paql_printer.specs.Fronts.{Front, start, of_kind, begun, more, put, written}
 
 -- ---- bytes
@@ -68,10 +68,31 @@ written_bytes front (next ∷ later) =
     ∙ (ap (λ (bytes : List ℕ). ((if touching then front.bytes else front.bytes ++ 32 ∷ []) ++ next.bytes) ++ bytes) (spaced_kinds (of_kind front.last) next later)
     ∙ with_space touching front.bytes next.bytes (spaced_behind (of_kind front.last) next later))
 
--- a minus at the very beginning stands before no term of a sum, as behind a bracket
-first_minus : (kind : Kind) → (is kinds.Minus (of_kind kind) && not (ends_term (of_kind kind))) ≡ is kinds.Minus (of_kind kind)
+-- a minus that stands first is a sign
+first_minus : (kind : Kind) → (is kinds.Minus (of_kind kind) && not (ends_term (of_kind kind))) ≡ (is kinds.Minus (of_kind kind) && true)
 first_minus kinds.Minus = refl
 first_minus _ = refl
+
+first_touches : (first next : Lexeme) → touches (of_kind kinds.LeftParen) first next ≡ touches first first next
+first_touches first next =
+    ap (λ (sign : Bool). is kinds.Dot first || (is kinds.Dot next || (is kinds.LeftParen first || (is kinds.RightParen next || (is kinds.Comma next || ((is kinds.LeftParen next && calls first) || sign)))))) (sym (first_minus first.kind))
+
+behind_first : (first : Lexeme) (later : List Lexeme) → spaced_behind (of_kind kinds.LeftParen) first later ≡ spaced_behind first first later
+behind_first first [] = refl
+behind_first first (next ∷ later) =
+    ap (λ (touching : Bool). (if touching then next.bytes else 32 ∷ next.bytes) ++ spaced_behind first next later) (first_touches first next)
+
+or_true : (one : Bool) → (one || true) ≡ true
+or_true true = refl
+or_true false = refl
+
+-- what is written from the start on
+pub start_bytes : (lexemes : List Lexeme) → (written start lexemes).bytes ≡ spaced lexemes
+start_bytes [] = refl
+start_bytes (first ∷ later) =
+    written_bytes start (first ∷ later)
+    ∙ (ap (λ (touching : Bool). (if touching then first.bytes else 32 ∷ first.bytes) ++ spaced_behind (of_kind kinds.LeftParen) first later) (or_true (is kinds.Dot first))
+    ∙ ap (λ (bytes : List ℕ). first.bytes ++ bytes) (behind_first first later))
 
 -- a lexeme that is written in three pieces
 pub quoted_is : (front begins opens within closes : Front) (next : Lexeme) (quote : ℕ) (content : List ℕ) → next.bytes ≡ quote ∷ (content ++ quote ∷ []) → begins ≡ begun front next.kind → opens ≡ more begins (quote ∷ []) → within ≡ more opens content → closes ≡ more within (quote ∷ []) → closes ≡ put front next

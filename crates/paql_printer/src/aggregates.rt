@@ -17,7 +17,7 @@ use std::alloc::AllocError;
 
 /// All rows of a package.
 fn all_of(writer: &mut Writer, package: &Text) -> Result<(), AllocError>
-    ensures { OnOk result (writer.new ≡ written writer.old (parts.all_of package.now)) }
+    ensures { OnOk result (writer.new ≡ written writer.old (parts.all_of «package».now)) }
 {
     name(writer, package)?;
     writer.word(Kind::Dot)?;
@@ -31,7 +31,7 @@ fn rows(
     package: &Text,
     of: &Option<Text>,
 ) -> Result<(), AllocError>
-    ensures { OnOk result (writer.new ≡ written writer.old (print.rows inside package.now of.now)) }
+    ensures { OnOk result (writer.new ≡ written writer.old (print.rows inside «package».now of.now)) }
 {
     match of {
         Some(of) => all_of(writer, of),
@@ -41,7 +41,7 @@ fn rows(
 
 /// The rows of the query's own package.
 fn own_rows(writer: &mut Writer, inside: bool, package: &Text) -> Result<(), AllocError>
-    ensures { OnOk result (writer.new ≡ written writer.old (print.rows inside package.now None)) }
+    ensures { OnOk result (writer.new ≡ written writer.old (print.rows inside «package».now None)) }
 {
     if inside {
         return writer.word(Kind::Star);
@@ -57,7 +57,7 @@ fn plain(
     of: &Plain,
 ) -> Result<(), AllocError>
     ensures { OnOk result (writer.new ≡ written writer.old
-        (print.plain inside package.now of.now)) }
+        (print.plain inside «package».now of.now)) }
 {
     match of {
         Plain::Count(of) => {
@@ -84,7 +84,7 @@ fn conditional(
     filter: &Pred,
 ) -> Result<(), AllocError>
     ensures { OnOk result (writer.new ≡ written writer.old
-        (print.only package.now of.now (Some (from.now, filter.now)))) }
+        (print.only «package».now of.now (Some (from.now, filter.now)))) }
 {
     writer.word(Kind::LeftParen)?;
     writer.word(Kind::Select)?;
@@ -103,7 +103,7 @@ fn only(
     filter: &Option<(Text, Pred)>,
 ) -> Result<(), AllocError>
     ensures { OnOk result (writer.new ≡ written writer.old
-        (print.only package.now of.now filter.now)) }
+        (print.only «package».now of.now filter.now)) }
 {
     match filter {
         Some(filter) => conditional(writer, package, of, &filter.0, &filter.1),
@@ -112,7 +112,7 @@ fn only(
 }
 
 fn agg(writer: &mut Writer, package: &Text, of: &Agg) -> Result<(), AllocError>
-    ensures { OnOk result (writer.new ≡ written writer.old (print.agg package.now of.now)) }
+    ensures { OnOk result (writer.new ≡ written writer.old (print.agg «package».now of.now)) }
 {
     only(writer, package, &of.plain, &of.only)
 }
@@ -130,7 +130,7 @@ fn factor(writer: &mut Writer, times: Option<Scaled>) -> Result<(), AllocError>
 }
 
 fn term(writer: &mut Writer, package: &Text, of: &Term) -> Result<(), AllocError>
-    ensures { OnOk result (writer.new ≡ written writer.old (print.term package.now of.now)) }
+    ensures { OnOk result (writer.new ≡ written writer.old (print.term «package».now of.now)) }
 {
     match of {
         Term::Number(value) => number(writer, *value),
@@ -153,7 +153,7 @@ fn sign(writer: &mut Writer, at: usize, minus: bool) -> Result<(), AllocError>
 
 /// A sum.
 pub(crate) fn sum(writer: &mut Writer, package: &Text, items: &[SumItem]) -> Result<(), AllocError>
-    ensures { OnOk result (writer.new ≡ written writer.old (print.sum package.now items.now)) }
+    ensures { OnOk result (writer.new ≡ written writer.old (print.sum «package».now items.now)) }
 {
     for (at, item) in items.iter().enumerate() {
         sign(writer, at, item.minus)?;

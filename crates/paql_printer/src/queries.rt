@@ -30,7 +30,7 @@ fn compared(
     right: &[SumItem],
 ) -> Result<(), AllocError>
     ensures { OnOk result (writer.new ≡ written writer.old
-        (print.conjunct package.now (conjuncts.Compare left.now op right.now))) }
+        (print.conjunct «package».now (conjuncts.Compare left.now op right.now))) }
 {
     sum(writer, package, left)?;
     operator(writer, op)?;
@@ -57,7 +57,7 @@ fn average(writer: &mut Writer, of: &ColumnName) -> Result<(), AllocError>
 }
 
 fn conjunct(writer: &mut Writer, package: &Text, of: &Conjunct) -> Result<(), AllocError>
-    ensures { OnOk result (writer.new ≡ written writer.old (print.conjunct package.now of.now)) }
+    ensures { OnOk result (writer.new ≡ written writer.old (print.conjunct «package».now of.now)) }
 {
     match of {
         Conjunct::Compare { left, op, right } => {
@@ -81,7 +81,7 @@ fn conjunct(writer: &mut Writer, package: &Text, of: &Conjunct) -> Result<(), Al
 
 fn joined(writer: &mut Writer, package: &Text, conjuncts: &[Conjunct]) -> Result<(), AllocError>
     ensures { OnOk result (writer.new ≡ written writer.old
-        (print.listed kinds.And (print.conjunct package.now) conjuncts.now)) }
+        (print.listed kinds.And (print.conjunct «package».now) conjuncts.now)) }
 {
     for (at, of) in conjuncts.iter().enumerate() {
         separate(writer, Kind::And, at)?;
@@ -92,7 +92,7 @@ fn joined(writer: &mut Writer, package: &Text, conjuncts: &[Conjunct]) -> Result
 
 fn such_that(writer: &mut Writer, package: &Text, conjuncts: &[Conjunct]) -> Result<(), AllocError>
     ensures { OnOk result (writer.new ≡ written writer.old
-        (print.such_that package.now conjuncts.now)) }
+        (print.such_that «package».now conjuncts.now)) }
 {
     if conjuncts.is_empty() {
         return Ok(());
@@ -106,7 +106,7 @@ fn such_that(writer: &mut Writer, package: &Text, conjuncts: &[Conjunct]) -> Res
 
 /// `SELECT PACKAGE(of) AS package`
 fn head(writer: &mut Writer, of: &Text, package: &Text) -> Result<(), AllocError>
-    ensures { OnOk result (writer.new ≡ written writer.old (print.head of.now package.now)) }
+    ensures { OnOk result (writer.new ≡ written writer.old (print.head of.now «package».now)) }
 {
     writer.word(Kind::Select)?;
     writer.word(Kind::Package)?;
@@ -180,7 +180,7 @@ pub(crate) fn filter(writer: &mut Writer, filter: &Option<Pred>) -> Result<(), A
 
 fn goal(writer: &mut Writer, package: &Text, goal: &Option<Goal>) -> Result<(), AllocError>
     ensures { OnOk result (writer.new ≡ written writer.old
-        (print.optional (print.goal package.now) goal.now)) }
+        (print.optional (print.goal «package».now) goal.now)) }
 {
     match goal {
         Some(of) => best(writer, package, of),
@@ -189,7 +189,7 @@ fn goal(writer: &mut Writer, package: &Text, goal: &Option<Goal>) -> Result<(), 
 }
 
 fn best(writer: &mut Writer, package: &Text, of: &Goal) -> Result<(), AllocError>
-    ensures { OnOk result (writer.new ≡ written writer.old (print.goal package.now of.now)) }
+    ensures { OnOk result (writer.new ≡ written writer.old (print.goal «package».now of.now)) }
 {
     writer.word(goal_kind(of.maximize))?;
     sum(writer, package, of.parts.as_slice())
