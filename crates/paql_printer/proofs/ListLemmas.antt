@@ -1,5 +1,5 @@
 -- A list that is written part by part.
-use Rattle.std.proofs.Common.{◌≡◌, ℕ, zero, suc, ◌+◌, ◌<◌, length, take, get_or, Bool, true, false, ◌==◌, if◌then◌else◌, List, [], ◌∷◌, ◌++◌, flat_map, map, refl, sym, ap, ◌∙◌, append_assoc, append-nil, add-one, arith}
+use Rattle.std.proofs.Common.{◌≡◌, ℕ, zero, suc, ◌+◌, ◌<◌, length, take, get_or, Bool, true, false, ◌==◌, if◌then◌else◌, List, [], ◌∷◌, ◌++◌, flat_map, refl, sym, ap, ◌∙◌, append_assoc, append-nil, add-one, arith}
 use Rattle.std.proofs.lemmas.List.{take_more}
 use Rattle.std.proofs.lemmas.Grind.{fold-append, flat_map-append}
 use Rattle.std.proofs.lemmas.Bool.Decides.{nat_tests}
@@ -40,8 +40,9 @@ listed_more kind print (first ∷ later) (suc at) d within =
 
 -- two parts more
 pub written_two : (front now between after : Front) (lexemes one other : List Lexeme) → now ≡ written front lexemes → between ≡ written now one → after ≡ written between other → after ≡ written front (lexemes ++ (one ++ other))
-written_two front now between after lexemes one other e f g =
-    g ∙ (ap (λ (z : Front). written z other) (f ∙ ap (λ (z : Front). written z one) e) ∙ (ap (λ (z : Front). written z other) (written_append front lexemes one) ∙ (written_append front (lexemes ++ one) other ∙ ap (written front) (append_assoc lexemes one other))))
+written_two front now between after lexemes one other is_now is_between is_after =
+    is_after ∙ (ap (λ (at : Front). written at other) (is_between ∙ ap (λ (at : Front). written at one) is_now)
+    ∙ (ap (λ (at : Front). written at other) (written_append front lexemes one) ∙ (written_append front (lexemes ++ one) other ∙ ap (written front) (append_assoc lexemes one other))))
 
 -- the loop that writes a list takes a step
 pub listed_step : {A : Type 0} (kind : Kind) (print : A → List Lexeme) (front now separated after : Front) (parts : List A) (at : ℕ) (d : A) → at < length parts → now ≡ written front (listed kind print (take at parts)) → separated ≡ written now (separator kind at) → after ≡ written separated (print (get_or parts at d)) → after ≡ written front (listed kind print (take (at + 1) parts))

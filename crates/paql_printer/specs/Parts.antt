@@ -1,14 +1,11 @@
 -- The lexemes of parts that a function of its own writes.
-use Rattle.std.specs.Prelude.{ℕ, Bool, true, false, ◌==◌, if◌then◌else◌, List, [], ◌∷◌, ◌++◌}
-use Rattle.schema_types.specs.declared.Lit.{Lit}
+use Rattle.std.specs.Prelude.{ℕ, Bool, true, false, ◌==◌, if◌then◌else◌, List, [], ◌∷◌}
 use Rattle.paql_lexer.specs.declared.vocabulary.Kind.{Kind}
 use Rattle.paql_lexer.specs.declared.vocabulary.Kind.TheVariants as kinds
 use Rattle.paql_ast.specs.declared.predicates.Pred.{Pred}
 use Rattle.paql_ast.specs.declared.predicates.Pred.TheFolds.{fold-Pred}
-use Rattle.paql_ast.specs.declared.aggregates.SumItem.{SumItem}
 use Rattle.paql_grammar.specs.Lexemes.{Lexeme}
 use Rattle.paql_grammar.specs.Spellings.{spelled, name}
-use Rattle.paql_grammar.specs.Print as print
 use Rattle.paql_grammar.specs.Print.{Held, held, at_least}
 
 -- What stands in front of the part at this place: the word, but for the first part.

@@ -11,3 +11,6 @@ mod statements;
 mod writer;
 
 pub use statements::print;
+
+#[cfg(test)]
+mod tests;

@@ -225,7 +225,7 @@ fn method(writer: &mut Writer, method: Option<Method>) -> Result<(), AllocError>
 
 fn ending(writer: &mut Writer, query: &Query) -> Result<(), AllocError>
     ensures { OnOk result (writer.new ≡ written writer.old
-        (print.ending query.now.package query.now.goal query.now.method query.now.budget)) }
+        (print.ending query.now.«package» query.now.goal query.now.method query.now.budget)) }
 {
     goal(writer, &query.package, &query.goal)?;
     method(writer, query.method)?;

@@ -106,7 +106,8 @@ fn vacuum(writer: &mut Writer, version: u64) -> Result<(), AllocError>
     whole(writer, version)
 }
 
-fn statement(writer: &mut Writer, statement: &Statement) -> Result<(), AllocError>
+/// The lexemes of a statement.
+fn lexemes(writer: &mut Writer, statement: &Statement) -> Result<(), AllocError>
     ensures { OnOk result (writer.new ≡ written writer.old (print.statement statement.now)) }
 {
     match statement {
@@ -139,6 +140,6 @@ pub fn print(alloc: Global, statement: &Statement) -> Result<Vec<u8>, AllocError
     ensures { IfOk result (λ text. text.items ≡ canonical_text statement.now) }
 {
     let mut writer = Writer::new(alloc);
-    crate::statements::statement(&mut writer, statement)?;
+    lexemes(&mut writer, statement)?;
     Ok(writer.into_bytes())
 }

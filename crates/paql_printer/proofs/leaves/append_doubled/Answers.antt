@@ -1,4 +1,5 @@
-use Rattle.std.proofs.Common.{sym, ap, ◌∙◌, ℕ, take, get_or, ◌∷◌, [], arith}
+-- One byte more, doubled where it is a quote.
+use Rattle.std.proofs.Common.{sym, ap, ◌∙◌, get_or, ◌∷◌, [], arith}
 use Rattle.paql_lexer.specs.Lexical.{doubled}
 use Rattle.paql_printer.specs.Fronts.{Front, more}
 use Rattle.paql_printer.proofs.FrontLemmas.{more_nil, doubled_more}

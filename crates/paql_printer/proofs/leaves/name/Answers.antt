@@ -1,4 +1,5 @@
-use Rattle.std.proofs.Common.{◌≡◌, false, true, ◌∙◌, sym, ap, refl, ℕ, List}
+-- A word is written as it is where it is no keyword, and else between quotes.
+use Rattle.std.proofs.Common.{◌≡◌, ◌∙◌, sym, ap, refl, ℕ, List}
 use Rattle.std.proofs.lemmas.Result.{on_ok_weaker}
 use denote.Enum.Bare.{sameb}
 use Rattle.paql_lexer.specs.Keywords.{word_kind}
@@ -6,7 +7,7 @@ use Rattle.paql_lexer.specs.contracts.vocabulary.Kind.{the_type}
 use Rattle.paql_lexer.specs.declared.vocabulary.Kind.{Kind}
 use Rattle.paql_lexer.specs.declared.vocabulary.Kind.TheVariants as kinds
 use Rattle.paql_grammar.specs.Lexemes.{Lexeme}
-use Rattle.paql_printer.specs.Fronts.{Front, more, put}
+use Rattle.paql_printer.specs.Fronts.{more, put}
 use Rattle.paql_printer.proofs.FrontLemmas.{quoted_is}
 use Rattle.paql_printer.proofs.SpellingLemmas.{plain, in_quotes, plain_name, quoted_name}
 use Rattle.paql_printer.proofs.leaves.name.Goals as goal

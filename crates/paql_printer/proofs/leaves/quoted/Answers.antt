@@ -1,3 +1,4 @@
+-- A quote, the content and a quote are one lexeme.
 use Rattle.std.proofs.Common.{◌∙◌, refl, ap, ℕ, List}
 use Rattle.std.proofs.lemmas.Result.{on_ok_weaker}
 use Rattle.paql_lexer.specs.Lexical.{doubled}

@@ -1,4 +1,5 @@
-use Rattle.std.proofs.Common.{◌≡◌, sym, ap, ◌∙◌, arith, List}
+-- The parts of an AND or of an OR are what the fold over the predicate prints.
+use Rattle.std.proofs.Common.{sym, ap, ◌∙◌, arith}
 use Rattle.std.proofs.lemmas.Result.{on_ok_weaker}
 use Rattle.paql_lexer.specs.declared.vocabulary.Kind.TheVariants as kinds
 use Rattle.paql_ast.specs.declared.predicates.Pred.{Pred}

@@ -1,3 +1,4 @@
+-- One condition more, behind its AND.
 use Rattle.std.proofs.Common.{ap, ◌∙◌, arith}
 use Rattle.paql_lexer.specs.declared.vocabulary.Kind.TheVariants as kinds
 use Rattle.paql_ast.specs.declared.queries.Conjunct.{Conjunct}
