@@ -47,7 +47,7 @@ written_two front now between after lexemes one other is_now is_between is_after
 -- the loop that writes a list takes a step
 pub listed_step : {A : Type 0} (kind : Kind) (print : A → List Lexeme) (front now separated after : Front) (parts : List A) (at : ℕ) (d : A) → at < length parts → now ≡ written front (listed kind print (take at parts)) → separated ≡ written now (separator kind at) → after ≡ written separated (print (get_or parts at d)) → after ≡ written front (listed kind print (take (at + 1) parts))
 listed_step kind print front now separated after parts at d within before gap one =
-    written_two front now separated after (listed kind print (take at parts)) (separator kind at) (print (get_or parts at d)) before gap one 
+    written_two front now separated after (listed kind print (take at parts)) (separator kind at) (print (get_or parts at d)) before gap one
     ∙ (ap (written front) (sym (listed_more kind print parts at d within)) ∙ ap (λ (n : ℕ). written front (listed kind print (take n parts))) (sym (add-one at)))
 
 -- the sign of a term makes it the first item or a next one

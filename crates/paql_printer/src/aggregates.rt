@@ -50,12 +50,7 @@ fn own_rows(writer: &mut Writer, inside: bool, package: &Text) -> Result<(), All
 }
 
 /// An aggregate of all copies.
-fn plain(
-    writer: &mut Writer,
-    inside: bool,
-    package: &Text,
-    of: &Plain,
-) -> Result<(), AllocError>
+fn plain(writer: &mut Writer, inside: bool, package: &Text, of: &Plain) -> Result<(), AllocError>
     ensures { OnOk result (writer.new ≡ written writer.old
         (print.plain inside «package».now of.now)) }
 {
@@ -134,7 +129,10 @@ fn term(writer: &mut Writer, package: &Text, of: &Term) -> Result<(), AllocError
 {
     match of {
         Term::Number(value) => number(writer, *value),
-        Term::Agg { factor: times, agg: of } => {
+        Term::Agg {
+            factor: times,
+            agg: of,
+        } => {
             factor(writer, *times)?;
             agg(writer, package, of)
         }

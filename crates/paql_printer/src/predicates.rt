@@ -45,12 +45,7 @@ fn compared(
     operand(writer, right)
 }
 
-fn ranged(
-    writer: &mut Writer,
-    of: &ColumnName,
-    low: &Lit,
-    high: &Lit,
-) -> Result<(), AllocError>
+fn ranged(writer: &mut Writer, of: &ColumnName, low: &Lit, high: &Lit) -> Result<(), AllocError>
     ensures { OnOk result (writer.new ≡ written writer.old (print.column of.now
         ++ print.behind kinds.Between (print.lit low.now ++ print.behind kinds.And (print.lit high.now)))) }
 {

@@ -63,7 +63,11 @@ fn conjunct(writer: &mut Writer, package: &Text, of: &Conjunct) -> Result<(), Al
         Conjunct::Compare { left, op, right } => {
             compared(writer, package, left.as_slice(), *op, right.as_slice())
         }
-        Conjunct::Between { sum: items, low, high } => {
+        Conjunct::Between {
+            sum: items,
+            low,
+            high,
+        } => {
             sum(writer, package, items.as_slice())?;
             ends(writer, *low, *high)
         }
@@ -198,7 +202,11 @@ fn best(writer: &mut Writer, package: &Text, of: &Goal) -> Result<(), AllocError
 fn goal_kind(maximize: bool) -> Kind
     ensures { result ≡ (if maximize then kinds.Maximize else kinds.Minimize) }
 {
-    if maximize { Kind::Maximize } else { Kind::Minimize }
+    if maximize {
+        Kind::Maximize
+    } else {
+        Kind::Minimize
+    }
 }
 
 fn method_kind(method: Method) -> Kind

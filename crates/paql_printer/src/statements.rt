@@ -114,9 +114,11 @@ fn lexemes(writer: &mut Writer, statement: &Statement) -> Result<(), AllocError>
         Statement::Create { table, columns } => create(writer, table, columns.as_slice()),
         Statement::Insert { table, rows } => insert(writer, table, rows.as_slice()),
         Statement::Load { table, bytes } => load(writer, table, *bytes),
-        Statement::Update { table, sets, filter } => {
-            update(writer, table, sets.as_slice(), filter)
-        }
+        Statement::Update {
+            table,
+            sets,
+            filter,
+        } => { update(writer, table, sets.as_slice(), filter) }
         Statement::Delete { table, filter } => delete(writer, table, filter),
         Statement::Partition {
             table,
