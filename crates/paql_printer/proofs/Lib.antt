@@ -1,0 +1,4 @@
+pub mod FrontLemmas
+pub mod ListLemmas
+pub mod PredicateLemmas
+pub mod SpellingLemmas

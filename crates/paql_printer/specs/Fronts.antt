@@ -1,0 +1,40 @@
+-- The front of a text that is being written.
+use Rattle.std.specs.Prelude.{ℕ, if◌then◌else◌, List, [], ◌∷◌, ◌++◌, fold}
+use Rattle.paql_lexer.specs.declared.vocabulary.Kind.{Kind}
+use Rattle.paql_lexer.specs.declared.vocabulary.Kind.TheVariants as kinds
+use Rattle.paql_grammar.specs.Lexemes.{Lexeme}
+use Rattle.paql_grammar.specs.Spacing.{touches}
+
+-- The bytes so far, and the kinds of the last two lexemes.
+pub record Front : Type 0 where
+  pub bytes : List ℕ
+  pub before : Kind
+  pub last : Kind
+
+-- Before the first lexeme, which has no space in front of it, as behind a bracket.
+abbrev pub start : Front
+start = record { bytes = []; before = kinds.LeftParen; last = kinds.LeftParen }
+
+-- A lexeme of this kind, without its bytes.
+abbrev pub of_kind : Kind → Lexeme
+of_kind kind = record { kind = kind; bytes = [] }
+
+-- A lexeme of this kind begins, behind a space where it doesn't touch the last one.
+unfoldable pub begun : Front → Kind → Front
+begun front kind = record {
+  bytes = if touches (of_kind front.before) (of_kind front.last) (of_kind kind) then front.bytes else front.bytes ++ 32 ∷ [];
+  before = front.last;
+  last = kind;
+}
+
+-- The last lexeme has these bytes too.
+unfoldable pub more : Front → List ℕ → Front
+more front bytes = record front { bytes = front.bytes ++ bytes }
+
+-- One more lexeme.
+unfoldable pub put : Front → Lexeme → Front
+put front next = more (begun front next.kind) next.bytes
+
+-- More lexemes.
+abbrev pub written : Front → List Lexeme → Front
+written front lexemes = fold put front lexemes
