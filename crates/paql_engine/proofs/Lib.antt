@@ -1,3 +1,4 @@
 pub mod Solved
 pub mod BuiltTrees
 pub mod BuiltOnce
+pub mod Questions
