@@ -16,8 +16,8 @@ use Rattle.session_server.specs.declared.conversation.Turn.TheVariants.{Passed, 
 -- the statement whose body is to come is that of the text
 abbrev pub WaitsFor : Option (List ℕ) → Option Statement → Type 0
 WaitsFor None None = Unit {0}
-WaitsFor (Some words) (Some statement) = IsStatement words statement
-WaitsFor words statement = ⊥
+WaitsFor (Some words) (Some t) = IsStatement words t
+WaitsFor words waiting = ⊥
 
 -- the first frames of the bytes were answered by the replies, and no others
 pub record IsServing (bytes : List ℕ) (frames : List Frame) (replies : List ReplyData) (c : Conversation) : Type 0 where
