@@ -1,2 +1,4 @@
 pub mod Blank
 pub mod Turns
+pub mod Running
+pub mod Complete

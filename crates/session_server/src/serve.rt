@@ -47,16 +47,14 @@ pub fn serve_session<S: Source, K: Sink>(
     loop {
         match conversation.turn(alloc) {
             Turn::Passed => {}
-            Turn::Replied(bytes) => {
-                if put_all(sink, &bytes) == Put::Failed {
-                    return SessionEnd::WriteFault;
-                }
-            }
-            Turn::Wanting => {
-                if put_all(sink, memory_line()) == Put::Failed {
-                    return SessionEnd::WriteFault;
-                }
-            }
+            Turn::Replied(bytes) => match put_all(sink, &bytes) {
+                Put::All => {}
+                Put::Failed => return SessionEnd::WriteFault,
+            },
+            Turn::Wanting => match put_all(sink, memory_line()) {
+                Put::All => {}
+                Put::Failed => return SessionEnd::WriteFault,
+            },
             Turn::Memory => return SessionEnd::Memory,
             Turn::TooLong => return SessionEnd::TooLong,
             Turn::Need => match read_more(source, &mut conversation, MAX_BYTES - taken) {
