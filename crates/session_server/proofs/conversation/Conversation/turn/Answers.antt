@@ -24,6 +24,3 @@ returns-in-Ok-Statement c = λ bytes frames replies serving.
     let turns = rw c.deref.ensures.value at c.take.ensures in
     turns bytes frames replies _ (framed bytes frames replies c.in-Ok-Statement.text.items c.args.self.now c.next.new.self next serving)
     (size_framed c.in-Ok-Statement.text.items c.args.self.now c.next.new.self next)
-
-pub returns-in-Ok-Body : goal.returns-in-Ok-Body
-returns-in-Ok-Body c = ?
