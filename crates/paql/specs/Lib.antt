@@ -1,9 +1,1 @@
-pub mod Reading
-pub mod Form
-pub mod Numbers
-pub mod Replies
-pub mod Streams
-pub mod Translation
-pub mod Scripts
-pub mod Answers
 pub mod Status

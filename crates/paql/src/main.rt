@@ -1,13 +1,7 @@
-//! `paql run` reads a script from standard input and answers it on standard output.
+//! `paql run` reads statements from standard input and answers them on standard output.
 #![tactic(auto)]
 
-mod answer;
-mod form;
-mod limits;
-mod replies;
-mod streams;
 mod top;
-mod translate;
 
 use pq_base::{OpenGate, ReadSource, WriteSink};
 use std::env;
