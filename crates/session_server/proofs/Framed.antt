@@ -1,10 +1,10 @@
 -- The text of a frame is one statement at most, and none where it has a fault.
-use Rattle.std.proofs.Common.{◌≡◌, ◌≢◌, ℕ, suc, List, [], refl, subst, length}
+use Rattle.std.proofs.Common.{◌≡◌, ◌≢◌, ℕ, suc, List, refl, subst}
 use Rattle.formal_grammar.specs.Fault.{Agrees}
 use Rattle.paql_ast.specs.declared.statements.Statement.{Statement}
 use Rattle.paql_ast.specs.declared.statements.Statement.TheVariants.{Load}
 use Rattle.paql_grammar.proofs.TextRules.{one_tree_of_text}
-use Rattle.paql_grammar.specs.Lexemes.{Lexeme, lexemes}
+use Rattle.paql_grammar.specs.Lexemes.{lexemes}
 use Rattle.paql_grammar.specs.Statements.{statement}
 use Rattle.paql_grammar.specs.Texts.{IsStatement, IsSyntaxAt, IsDeepAt}
 use Rattle.paql_lexer.proofs.Reached.{one_list_of_tokens, no_list_of_tokens}

@@ -1,5 +1,5 @@
 -- What a frame's answer does to a session.
-use Rattle.std.proofs.Common.{◌≡◌, ◌≢◌, ℕ, ◌+◌, ◌*◌, ◌-◌, ◌<◌, ◌≤◌, min, Option, None, Some, Result, Ok, Err, List, [], ◌∷◌, ◌++◌, length, drop, inl, inr, IfOk, OnErr, IsTrue, refl, sym, ap, ◌∙◌, subst, arith, length-drop}
+use Rattle.std.proofs.Common.{◌≡◌, ◌≢◌, ℕ, ◌+◌, ◌-◌, ◌<◌, ◌≤◌, min, Option, None, Some, Result, Ok, Err, List, [], ◌∷◌, ◌++◌, length, drop, inl, inr, IfOk, OnErr, refl, sym, subst, arith, length-drop}
 use Rattle.std.specs.declared.alloc.AllocError.{AllocError}
 use Rattle.std.proofs.lemmas.Result.{IfOk-weaker}
 use Rattle.paql_ast.specs.declared.statements.Statement.{Statement}
@@ -7,14 +7,13 @@ use Rattle.paql_ast.specs.declared.statements.Statement.TheVariants.{Load}
 use Rattle.paql_engine.specs.Steps.{Steps}
 use Rattle.paql_grammar.specs.Texts.{IsStatement}
 use Rattle.paql_lexer.specs.Tokens.{IsTokens}
-use Rattle.session_proto.specs.Frames.{is_blank}
 use Rattle.session_proto.specs.Input.{Input, absent, awaiting, asked}
 use Rattle.session_proto.specs.Replies.{ReplyData, refusal}
 use Rattle.session_proto.specs.Sessions.{Frame}
 use Rattle.session_proto.proofs.SessionSteps.{stands_after_statement, stands_awaiting, stands_after_body}
 use Rattle.session_server.specs.declared.conversation.Conversation.{Conversation}
 use Rattle.session_server.specs.declared.conversation.Turn.{Turn}
-use Rattle.session_server.specs.declared.conversation.Turn.TheVariants.{Passed, Replied, Wanting, Need, TooLong, Memory}
+use Rattle.session_server.specs.declared.conversation.Turn.TheVariants.{Replied, Wanting, Memory}
 use Rattle.session_server.specs.Transcript.{IsLoad, FaultOf, AnswersText, Transcript, refused_at}
 use Rattle.session_server.specs.Serving.{WaitsFor, IsServing, ArePerformed, Answered, TurnsTo, IsFramed, HasBody, IsBehind, Responds, size}
 use Rattle.session_server.proofs.Blank.{blank_of_no_tokens}
@@ -39,12 +38,15 @@ transcript_behind bytes frames replies words c changes reply behind answers =
     (subst (λ (w : List ℕ). AnswersText c.session w reply changes) (sym behind.is) answers)
 
 answered : (bytes : List ℕ) (frames : List Frame) (replies : List ReplyData) (words : List ℕ) (c : Conversation) (changes : List Statement) (reply : ReplyData) → IsBehind bytes frames replies words c → AnswersText c.session words reply changes → Answered bytes frames replies reply (changed c changes)
-answered bytes frames replies words c changes reply behind answers = (behind.frame, record {
-  before = None;
-  stands = behind.stands;
-  waits = subst (λ (w : Option Statement). WaitsFor None w) (sym behind.free) tt;
-  transcript = transcript_behind bytes frames replies words c changes reply behind answers;
-})
+answered bytes frames replies words c changes reply behind answers = (
+  behind.frame,
+  record {
+    before = None;
+    stands = behind.stands;
+    waits = subst (λ (w : Option Statement). WaitsFor None w) (sym behind.free) tt;
+    transcript = transcript_behind bytes frames replies words c changes reply behind answers;
+  },
+)
 
 performed : (bytes : List ℕ) (frames : List Frame) (replies : List ReplyData) (words : List ℕ) (c : Conversation) (changes : List Statement) (reply : ReplyData) (behind : IsBehind bytes frames replies words c) → AnswersText c.session words reply changes → ArePerformed bytes (frames ++ behind.frame ∷ []) (replies ++ reply ∷ [])
 performed bytes frames replies words c changes reply behind answers = record {

@@ -1,18 +1,18 @@
 -- What each call of a framer does to a conversation.
-use Rattle.std.proofs.Common.{◌≡◌, ◌↔◌, ℕ, ◌+◌, ◌*◌, ◌-◌, ◌<◌, ◌≤◌, min, Option, None, Some, List, [], ◌∷◌, ◌++◌, length, drop, inl, inr, IsTrue, refl, sym, ap, ◌∙◌, subst, arith, length-drop, length-append}
+use Rattle.std.proofs.Common.{◌≡◌, ℕ, ◌+◌, ◌*◌, ◌-◌, ◌<◌, ◌≤◌, min, Option, None, Some, List, [], ◌∷◌, ◌++◌, length, drop, inl, refl, sym, ap, subst, arith, length-drop, length-append}
 use Rattle.std.specs.List.{flat_map}
 use Rattle.std.proofs.lemmas.List.{append-nil}
 use Rattle.paql_ast.specs.declared.statements.Statement.{Statement}
-use Rattle.session_proto.specs.Frames.{is_blank, Skips, closed}
-use Rattle.session_proto.specs.Input.{Input, Content, absent, held, skipped, IsContent, Needs, IsNext, statement, content, need, too_long, fed, settled, owed, paid}
+use Rattle.session_proto.specs.Frames.{Skips, closed}
+use Rattle.session_proto.specs.Input.{Input, Content, absent, held, skipped, IsContent, Needs, IsNext, statement, content, need, too_long, fed, owed, paid}
 use Rattle.session_proto.specs.Replies.{ReplyData}
-use Rattle.session_proto.specs.Sessions.{Frame, Begins, AreFrames, Stands, StandsBetween, StandsBehind}
+use Rattle.session_proto.specs.Sessions.{Frame, Begins, AreFrames, Stands}
 use Rattle.session_proto.specs.declared.framer.Awaited.{Awaited}
 use Rattle.session_proto.proofs.SessionSteps.{stands_at_first, stands_fed, needs_at_end, too_long_at_end}
 use Rattle.session_proto.proofs.CleanEnds.{clean_at_end}
 use Rattle.session_server.specs.declared.conversation.Conversation.{Conversation}
 use Rattle.session_server.specs.Transcript.{IsLoad, Transcript}
-use Rattle.session_server.specs.Serving.{WaitsFor, IsServing, ArePerformed, AreAll, HasOverlong, StopsFor, IsFramed, HasBody, size, body_awaited}
+use Rattle.session_server.specs.Serving.{WaitsFor, IsServing, AreAll, HasOverlong, StopsFor, IsFramed, HasBody, size, body_awaited}
 use Rattle.session_server.proofs.Framed.{load_once}
 
 -- the same conversation with another framer

@@ -1,8 +1,5 @@
 -- The bytes that come stand behind those so far.
-use Rattle.std.proofs.Common.{◌≡◌, ℕ, List, ◌++◌, Result}
 use Rattle.std.proofs.lemmas.Result.{on_ok_weaker}
-use Rattle.session_proto.specs.Replies.{ReplyData}
-use Rattle.session_proto.specs.Sessions.{Frame}
 use Rattle.session_server.proofs.conversation.Conversation.feed.Goals as goal
 use Rattle.session_server.proofs.Turned.{serves_fed, size_fed}
 

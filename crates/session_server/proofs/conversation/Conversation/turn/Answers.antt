@@ -1,6 +1,6 @@
 -- Each answer of the framer leads to a turn.
 use Rattle.std.proofs.Common.{subst}
-use Rattle.session_proto.specs.Input.{given_of, IsNext}
+use Rattle.session_proto.specs.Input.{given_of, content_of, IsNext}
 use Rattle.session_proto.specs.declared.framer.Framed.{Framed}
 use Rattle.session_server.proofs.conversation.Conversation.turn.Goals as goal
 use Rattle.session_server.proofs.Turned.{framed, size_framed, has_body, size_body, needs_more, has_overlong, stops}
@@ -24,3 +24,9 @@ returns-in-Ok-Statement c = λ bytes frames replies serving.
     let turns = rw c.deref.ensures.value at c.take.ensures in
     turns bytes frames replies _ (framed bytes frames replies c.in-Ok-Statement.text.items c.args.self.now c.next.new.self next serving)
     (size_framed c.in-Ok-Statement.text.items c.args.self.now c.next.new.self next)
+
+pub returns : goal.returns
+returns c = λ bytes frames replies serving.
+    let next = subst (λ (f : Framed). IsNext c.args.self.now.framer (given_of f) c.next.new.self) c.in-Ok-Body.field-0-is c.in-Ok-Body.ensures.ok in
+    c.finish.ensures bytes frames replies _ (has_body bytes frames replies (content_of c.in-Ok-Body.field-0-0) c.args.self.now c.next.new.self next serving)
+    (size_body (content_of c.in-Ok-Body.field-0-0) c.args.self.now c.next.new.self next)
