@@ -9,3 +9,6 @@ mod translate;
 pub use limits::{is_small, row_bound};
 pub use query::{BoundConjunct, BoundQuery, Measure, Side};
 pub use translate::{package_of, program_of, translation_keeps_meaning};
+
+#[cfg(test)]
+mod tests;

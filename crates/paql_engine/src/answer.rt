@@ -55,3 +55,5 @@ fn undecided(
     }
 }
 
+#[cfg(test)]
+mod tests;

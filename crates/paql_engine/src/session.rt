@@ -158,3 +158,6 @@ fn question(values: Items<i64>, query: BoundQuery) -> Built
         Built::Other
     }
 }
+
+#[cfg(test)]
+mod tests;
