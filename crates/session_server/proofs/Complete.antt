@@ -1,22 +1,14 @@
 -- A whole script is answered to its end.
 use Rattle.std.proofs.Common.{◌≡◌, inl, inr, ℕ, ◌+◌, ◌^◌, ◌<◌, ◌≤◌, List, [], ◌++◌, length, Option, Some, None, refl, sym, ap, subst, ◌∙◌, append-nil, length-append, arith}
 use Rattle.std.specs.Io.KnownBytes.{Consumes, IsAtEnd}
-use Rattle.paql_ast.specs.declared.statements.Statement.TheVariants.{Load}
-use Rattle.paql_grammar.specs.Texts.{IsStatement}
-use Rattle.paql_grammar.proofs.TextRules.{one_tree_of_text}
 use Rattle.session_proto.specs.Input.{Input}
-use Rattle.session_proto.specs.Sessions.{Frame, AreFrames, EndsClean, IsOverlong, OneWish}
+use Rattle.session_proto.specs.Sessions.{Frame, AreFrames, EndsClean, IsOverlong}
 use Rattle.session_proto.proofs.SessionSteps.{one_framing, too_long_at_end}
 use Rattle.session_server.specs.Ends.{EndsWith, IsTranscript, IsWholeScript, IsDoneOrFault}
 use Rattle.session_server.specs.Transcript.{IsLoad}
+use Rattle.session_server.proofs.Framed.{load_once}
 use Rattle.session_server.specs.declared.serve.SessionEnd.{SessionEnd}
 use Rattle.session_server.specs.declared.serve.SessionEnd.TheVariants as ends
-
--- a LOAD has a body of one size
-pub one_load : OneWish IsLoad
-one_load words one other is also =
-    let same : Load is.0 one ≡ Load also.0 other = one_tree_of_text 64 64 words (Load is.0 one) (Load also.0 other) (is.1.tokens, is.1.cut, is.1.spelled.spells) (also.1.tokens, also.1.cut, also.1.spelled.spells) in
-    cc
 
 -- what was read to the end is all that was left
 all_read : (bytes taken : List ℕ) (left_new : Option (List ℕ)) → Consumes (Some bytes) left_new taken → IsAtEnd left_new → taken ≡ bytes
@@ -52,13 +44,13 @@ module _ (left_old left_new written_old written_new : Option (List ℕ)) (script
   is_whole ends.Truncated (t, at_end, unclean, not_long) =
       let all : t.bytes ≡ script.bytes = all_read script.bytes t.bytes left_new (known t) at_end in
       let are = subst (λ (bytes : List ℕ). AreFrames IsLoad bytes t.frames t.rest) all t.are in
-      let same = one_framing IsLoad one_load script.bytes t.frames script.frames t.rest script.rest are script.are in
+      let same = one_framing IsLoad load_once script.bytes t.frames script.frames t.rest script.rest are script.are in
       absurd (unclean (subst EndsClean (sym same.1) script.clean))
   is_whole ends.TooLong (t, long) =
       let front = front_read script.bytes t.bytes left_new (known t) in
       let stays = long_stays t.bytes front.0 t.rest t.frames t.are long in
       let are = subst (λ (bytes : List ℕ). AreFrames IsLoad bytes t.frames stays.0) (sym front.1) stays.1 in
-      let same = one_framing IsLoad one_load script.bytes t.frames script.frames stays.0 script.rest are script.are in
+      let same = one_framing IsLoad load_once script.bytes t.frames script.frames stays.0 script.rest are script.are in
       absurd (script.not_long (subst IsOverlong same.1 stays.2))
   is_whole ends.SessionLimit (t, many, not_long) =
       let front = front_read script.bytes t.bytes left_new (known t) in

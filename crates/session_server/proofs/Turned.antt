@@ -48,9 +48,6 @@ none_not_some awaited body none some = cc
 
 -- ---- the beginning, and bytes that come
 
-pub serves_nothing : IsServing [] [] [] (record { framer = record { left = []; awaited = None }; session = []; waiting = None })
-serves_nothing = record { before = None; stands = stands_at_first IsLoad; waits = tt; transcript = refl }
-
 pub serves_fed : (bytes piece : List ℕ) (frames : List Frame) (replies : List ReplyData) (c : Conversation) (framer : Input) → framer ≡ fed c.framer piece → IsServing bytes frames replies c → IsServing (bytes ++ piece) frames replies (moved c framer)
 serves_fed bytes piece frames replies c framer e serving = record {
   before = serving.before;
