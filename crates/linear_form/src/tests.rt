@@ -53,7 +53,11 @@ fn how_often_a_row_can_occur(rt: HostRuntime) -> Result<(), Fail> {
         (2, &[(Side::AtMost, 0)], 0),
         (2, &[(Side::AtMost, -1)], 0),
         (2, &[(Side::AtLeast, 1)], 3),
-        (8, &[(Side::AtMost, 7), (Side::AtLeast, 2), (Side::AtMost, 5)], 5),
+        (
+            8,
+            &[(Side::AtMost, 7), (Side::AtLeast, 2), (Side::AtMost, 5)],
+            5,
+        ),
     ];
     for (repeat, conditions, want) in cases {
         let mut conjuncts = Vec::from_slice(rt.alloc(), &[SUM_AT_MOST])?;
@@ -77,15 +81,6 @@ fn is_small_for(alloc: Global, values: &[i64], copies: u64) -> Result<bool, Allo
     Ok(is_small(values, &query))
 }
 
-const TRILLION: i64 = 1_000_000_000_000;
-
-// 61,681 copies of each of these sum up to 2^60 + 1.
-const ONE_ABOVE: [i64; 19] = [
-    TRILLION, TRILLION, TRILLION, TRILLION, TRILLION, TRILLION, TRILLION, TRILLION, TRILLION,
-    TRILLION, TRILLION, TRILLION, TRILLION, TRILLION, TRILLION, TRILLION, TRILLION, TRILLION,
-    691_679_846_417,
-];
-
 // Whether so many values are small that add nothing.
 fn are_zeros_small(alloc: Global, number: usize) -> Result<bool, AllocError> {
     let zeros = vec![in alloc; 0; number]?;
@@ -94,6 +89,31 @@ fn are_zeros_small(alloc: Global, number: usize) -> Result<bool, AllocError> {
 
 // 2^39
 const POWER: i64 = 549_755_813_888;
+
+const TRILLION: i64 = 1_000_000_000_000;
+
+// 61,681 copies of each of these sum up to 2^60 + 1.
+const ONE_ABOVE: [i64; 19] = [
+    TRILLION,
+    TRILLION,
+    TRILLION,
+    TRILLION,
+    TRILLION,
+    TRILLION,
+    TRILLION,
+    TRILLION,
+    TRILLION,
+    TRILLION,
+    TRILLION,
+    TRILLION,
+    TRILLION,
+    TRILLION,
+    TRILLION,
+    TRILLION,
+    TRILLION,
+    TRILLION,
+    691_679_846_417,
+];
 
 #[test]
 fn what_is_small(rt: HostRuntime) -> Result<(), Fail> {
@@ -172,7 +192,11 @@ fn the_problem_of_a_query(rt: HostRuntime) -> Result<(), Fail> {
     assert_eq!(rt; problem.row_count(), rows.len());
     for (row, want) in rows.iter().enumerate() {
         assert!(rt; row < problem.row_count());
-        assert_eq!(rt; row_told(alloc, &problem, row)?.as_slice(), want.as_slice(), "{row}");
+        assert_eq!(rt;
+            row_told(alloc, &problem, row)?.as_slice(),
+            want.as_slice(),
+            "{row}"
+        );
     }
     translation_keeps_meaning();
     Ok(())

@@ -103,10 +103,12 @@ fn the_plain_program_agrees(rt: HostRuntime) -> Result<(), Fail> {
         let text = format!(in alloc;
             "SELECT PACKAGE(T) AS P FROM T REPEAT {asks} MAXIMIZE SUM(P.v)"
         )?;
-        let values =
-            inserted(alloc, &statement_of(alloc, insert.as_str())?)?.ok_or("there are rows")?;
-        let query =
-            bound_query(alloc, &statement_of(alloc, text.as_str())?)?.ok_or("it is a query")?;
+        let values = inserted(alloc, &statement_of(alloc, insert.as_str())?)?.ok_or(
+            "there are rows",
+        )?;
+        let query = bound_query(alloc, &statement_of(alloc, text.as_str())?)?.ok_or(
+            "it is a query",
+        )?;
         assert!(rt; is_small(values.as_slice(), &query));
         let reply = answer(alloc, values.as_slice(), &query, 2)?;
         let bytes = reply_bytes(alloc, &reply)?;

@@ -90,16 +90,43 @@ fn queries_that_are_answered(rt: HostRuntime) -> Result<(), Fail> {
     let some =
         "{\"bound\":\"4\",\"nodes\":5,\"objective\":\"1\",\"package\":[[1,1]],\"status\":\"undecided\",\"version\":2}\n";
     for (values, asks, budget, want) in [
+        // Numbers are whole however they are written.
+        ("(5.0), (-0)", "1 SUCH THAT SUM(P.v) <= 14", "", ten),
         ("(5)", "2 SUCH THAT SUM(P.v) <= 14", "", ten),
         ("(5)", "2 SUCH THAT SUM(P.v) <= 14.0", "BUDGET 20000", ten),
         ("(5)", "2 SUCH THAT COUNT(*) <= 0", "", NOTHING),
         ("(5)", "2 SUCH THAT SUM(P.v) <= -1", "", INFEASIBLE),
         ("(2), (-3)", "0 SUCH THAT SUM(P.v) <= -3", "", negative),
-        ("(5)", "1000000000000 SUCH THAT COUNT(P.*) <= 3 AND SUM(P.v) <= 14", "", ten),
-        ("(1000000000000)", "999999 SUCH THAT SUM(P.v) <= 14", "", NOTHING),
-        ("(-1000000000000)", "0 SUCH THAT SUM(P.v) >= 1000000000000", "", INFEASIBLE),
-        ("(2), (2), (2)", "0 SUCH THAT SUM(P.v) <= 3 AND SUM(P.v) >= 3", "BUDGET 1", none),
-        ("(2), (2), (2)", "0 SUCH THAT SUM(P.v) <= 3 AND SUM(P.v) >= 3", "BUDGET 15", INFEASIBLE),
+        (
+            "(5)",
+            "1000000000000 SUCH THAT COUNT(P.*) <= 3 AND SUM(P.v) <= 14",
+            "",
+            ten,
+        ),
+        (
+            "(1000000000000)",
+            "999999 SUCH THAT SUM(P.v) <= 14",
+            "",
+            NOTHING,
+        ),
+        (
+            "(-1000000000000)",
+            "0 SUCH THAT SUM(P.v) >= 1000000000000",
+            "",
+            INFEASIBLE,
+        ),
+        (
+            "(2), (2), (2)",
+            "0 SUCH THAT SUM(P.v) <= 3 AND SUM(P.v) >= 3",
+            "BUDGET 1",
+            none,
+        ),
+        (
+            "(2), (2), (2)",
+            "0 SUCH THAT SUM(P.v) <= 3 AND SUM(P.v) >= 3",
+            "BUDGET 15",
+            INFEASIBLE,
+        ),
         ("(1)", "3 SUCH THAT SUM(P.v) <= 14", "BUDGET 5", some),
     ] {
         let mut session = filled(alloc, values)?;
@@ -117,36 +144,117 @@ fn queries_that_are_not_built(rt: HostRuntime) -> Result<(), Fail> {
     let alloc = rt.alloc();
     let mut session = filled(alloc, "(5)")?;
     for (asks, want) in [
-        ("T REPEAT 2 SUCH THAT SUM(P.v) <= -1 MAXIMIZE SUM(P.v)", INFEASIBLE),
-        ("S REPEAT 2 SUCH THAT SUM(P.v) <= -1 MAXIMIZE SUM(P.v)", NOT_BUILT),
-        ("T R REPEAT 2 SUCH THAT SUM(P.v) <= -1 MAXIMIZE SUM(P.v)", NOT_BUILT),
-        ("T AT VERSION 2 REPEAT 2 SUCH THAT SUM(P.v) <= -1 MAXIMIZE SUM(P.v)", NOT_BUILT),
+        (
+            "T REPEAT 2 SUCH THAT SUM(P.v) <= -1 MAXIMIZE SUM(P.v)",
+            INFEASIBLE,
+        ),
+        (
+            "S REPEAT 2 SUCH THAT SUM(P.v) <= -1 MAXIMIZE SUM(P.v)",
+            NOT_BUILT,
+        ),
+        (
+            "T R REPEAT 2 SUCH THAT SUM(P.v) <= -1 MAXIMIZE SUM(P.v)",
+            NOT_BUILT,
+        ),
+        (
+            "T AT VERSION 2 REPEAT 2 SUCH THAT SUM(P.v) <= -1 MAXIMIZE SUM(P.v)",
+            NOT_BUILT,
+        ),
         ("T SUCH THAT SUM(P.v) <= -1 MAXIMIZE SUM(P.v)", NOT_BUILT),
-        ("T REPEAT 1000000 SUCH THAT SUM(P.v) <= -1 MAXIMIZE SUM(P.v)", NOT_BUILT),
-        ("T REPEAT 1000000000001 SUCH THAT COUNT(P.*) <= 1 MAXIMIZE SUM(P.v)", NOT_BUILT),
-        ("T REPEAT 2 WHERE v > 1 SUCH THAT SUM(P.v) <= -1 MAXIMIZE SUM(P.v)", NOT_BUILT),
+        (
+            "T REPEAT 1000000 SUCH THAT SUM(P.v) <= -1 MAXIMIZE SUM(P.v)",
+            NOT_BUILT,
+        ),
+        (
+            "T REPEAT 1000000000001 SUCH THAT COUNT(P.*) <= 1 MAXIMIZE SUM(P.v)",
+            NOT_BUILT,
+        ),
+        (
+            "T REPEAT 2 WHERE v > 1 SUCH THAT SUM(P.v) <= -1 MAXIMIZE SUM(P.v)",
+            NOT_BUILT,
+        ),
         ("T REPEAT 2 MAXIMIZE SUM(P.v)", NOT_BUILT),
-        ("T REPEAT 2 SUCH THAT SUM(v) <= -1 MAXIMIZE SUM(P.v)", NOT_BUILT),
-        ("T REPEAT 2 SUCH THAT SUM(T.v) <= -1 MAXIMIZE SUM(P.v)", NOT_BUILT),
-        ("T REPEAT 2 SUCH THAT 2 * SUM(P.v) <= -1 MAXIMIZE SUM(P.v)", NOT_BUILT),
-        ("T REPEAT 2 SUCH THAT -SUM(P.v) <= -1 MAXIMIZE SUM(P.v)", NOT_BUILT),
-        ("T REPEAT 2 SUCH THAT SUM(P.v) + COUNT(P.*) <= -1 MAXIMIZE SUM(P.v)", NOT_BUILT),
-        ("T REPEAT 2 SUCH THAT SUM(P.v) < -1 MAXIMIZE SUM(P.v)", NOT_BUILT),
-        ("T REPEAT 2 SUCH THAT SUM(P.v) = -1 MAXIMIZE SUM(P.v)", NOT_BUILT),
-        ("T REPEAT 2 SUCH THAT SUM(P.v) BETWEEN -2 AND -1 MAXIMIZE SUM(P.v)", NOT_BUILT),
-        ("T REPEAT 2 SUCH THAT AVG(P.v) <= -1 MAXIMIZE SUM(P.v)", NOT_BUILT),
-        ("T REPEAT 2 SUCH THAT -1 >= SUM(P.v) MAXIMIZE SUM(P.v)", NOT_BUILT),
-        ("T REPEAT 2 SUCH THAT SUM(P.v) <= COUNT(P.*) MAXIMIZE SUM(P.v)", NOT_BUILT),
-        ("T REPEAT 2 SUCH THAT SUM(P.v) <= -0 MAXIMIZE SUM(P.v)", NOT_BUILT),
-        ("T REPEAT 2 SUCH THAT SUM(P.v) <= -1.5 MAXIMIZE SUM(P.v)", NOT_BUILT),
-        ("T REPEAT 2 SUCH THAT SUM(P.v) <= -1000000000001 MAXIMIZE SUM(P.v)", NOT_BUILT),
+        (
+            "T REPEAT 2 SUCH THAT SUM(v) <= -1 MAXIMIZE SUM(P.v)",
+            NOT_BUILT,
+        ),
+        (
+            "T REPEAT 2 SUCH THAT SUM(T.v) <= -1 MAXIMIZE SUM(P.v)",
+            NOT_BUILT,
+        ),
+        (
+            "T REPEAT 2 SUCH THAT 2 * SUM(P.v) <= -1 MAXIMIZE SUM(P.v)",
+            NOT_BUILT,
+        ),
+        (
+            "T REPEAT 2 SUCH THAT -SUM(P.v) <= -1 MAXIMIZE SUM(P.v)",
+            NOT_BUILT,
+        ),
+        (
+            "T REPEAT 2 SUCH THAT SUM(P.v) + COUNT(P.*) <= -1 MAXIMIZE SUM(P.v)",
+            NOT_BUILT,
+        ),
+        (
+            "T REPEAT 2 SUCH THAT SUM(P.v) < -1 MAXIMIZE SUM(P.v)",
+            NOT_BUILT,
+        ),
+        (
+            "T REPEAT 2 SUCH THAT SUM(P.v) = -1 MAXIMIZE SUM(P.v)",
+            NOT_BUILT,
+        ),
+        (
+            "T REPEAT 2 SUCH THAT SUM(P.v) BETWEEN -2 AND -1 MAXIMIZE SUM(P.v)",
+            NOT_BUILT,
+        ),
+        (
+            "T REPEAT 2 SUCH THAT AVG(P.v) <= -1 MAXIMIZE SUM(P.v)",
+            NOT_BUILT,
+        ),
+        (
+            "T REPEAT 2 SUCH THAT -1 >= SUM(P.v) MAXIMIZE SUM(P.v)",
+            NOT_BUILT,
+        ),
+        (
+            "T REPEAT 2 SUCH THAT SUM(P.v) <= COUNT(P.*) MAXIMIZE SUM(P.v)",
+            NOT_BUILT,
+        ),
+        (
+            "T REPEAT 2 SUCH THAT SUM(P.v) <= -0 MAXIMIZE SUM(P.v)",
+            NOT_BUILT,
+        ),
+        (
+            "T REPEAT 2 SUCH THAT SUM(P.v) <= -1.5 MAXIMIZE SUM(P.v)",
+            NOT_BUILT,
+        ),
+        (
+            "T REPEAT 2 SUCH THAT SUM(P.v) <= -1000000000001 MAXIMIZE SUM(P.v)",
+            NOT_BUILT,
+        ),
         ("T REPEAT 2 SUCH THAT SUM(P.v) <= -1", NOT_BUILT),
-        ("T REPEAT 2 SUCH THAT SUM(P.v) <= -1 MINIMIZE SUM(P.v)", NOT_BUILT),
-        ("T REPEAT 2 SUCH THAT SUM(P.v) <= -1 MAXIMIZE COUNT(P.*)", NOT_BUILT),
-        ("T REPEAT 2 SUCH THAT SUM(P.v) <= -1 MAXIMIZE SUM(P.v) USING DIRECT", NOT_BUILT),
-        ("T REPEAT 2 SUCH THAT SUM(P.v) <= -1 MAXIMIZE SUM(P.v) BUDGET 0", NOT_BUILT),
-        ("T REPEAT 2 SUCH THAT SUM(P.v) <= -1 MAXIMIZE SUM(P.v) BUDGET 20001", NOT_BUILT),
-        ("T REPEAT 2 SUCH THAT SUM(P.v) <= -1 MAXIMIZE SUM(P.v)", INFEASIBLE),
+        (
+            "T REPEAT 2 SUCH THAT SUM(P.v) <= -1 MINIMIZE SUM(P.v)",
+            NOT_BUILT,
+        ),
+        (
+            "T REPEAT 2 SUCH THAT SUM(P.v) <= -1 MAXIMIZE COUNT(P.*)",
+            NOT_BUILT,
+        ),
+        (
+            "T REPEAT 2 SUCH THAT SUM(P.v) <= -1 MAXIMIZE SUM(P.v) USING DIRECT",
+            NOT_BUILT,
+        ),
+        (
+            "T REPEAT 2 SUCH THAT SUM(P.v) <= -1 MAXIMIZE SUM(P.v) BUDGET 0",
+            NOT_BUILT,
+        ),
+        (
+            "T REPEAT 2 SUCH THAT SUM(P.v) <= -1 MAXIMIZE SUM(P.v) BUDGET 20001",
+            NOT_BUILT,
+        ),
+        (
+            "T REPEAT 2 SUCH THAT SUM(P.v) <= -1 MAXIMIZE SUM(P.v)",
+            INFEASIBLE,
+        ),
     ] {
         let text = format!(in alloc; "SELECT PACKAGE(T) AS P FROM {asks}")?;
         let bytes = reply_to(alloc, &mut session, text.as_str())?;

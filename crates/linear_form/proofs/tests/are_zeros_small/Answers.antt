@@ -1,5 +1,5 @@
 -- Zeros are in range.
-use Rattle.std.proofs.Common.{rules, ◌≡◌, ℕ, zero, suc, replicate, ℤ, pos}
+use Rattle.std.proofs.Common.{rules, ◌≡◌, ℕ, zero, suc, replicate, pos}
 use Rattle.std.specs.List.{AllByRecursion}
 use Rattle.linear_form.specs.Questions.{InRange}
 use Rattle.linear_form.proofs.tests.are_zeros_small.Goals as goal
