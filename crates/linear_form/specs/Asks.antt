@@ -1,6 +1,6 @@
 -- What a query asks for, and the rows that it is asked of. A row is the list of its numbers.
-use Rattle.std.specs.Prelude.{ℕ, suc, List, [], ◌∷◌, map, ℤ, pos, true, Option, Some}
-use Rattle.package_query.specs.Query.{Conjunct as Condition, Goal, PackageQuery}
+use Rattle.std.specs.Prelude.{ℕ, suc, List, [], ◌∷◌, map, ℤ, pos, true, Some}
+use Rattle.package_query.specs.Query.{Conjunct as Condition, PackageQuery}
 use Rattle.package_query.specs.Plain.{number_at}
 use Rattle.package_query.specs.declared.comparison.Comparison.{Comparison}
 use Rattle.package_query.specs.declared.comparison.Comparison.TheVariants.{AtMost, AtLeast}

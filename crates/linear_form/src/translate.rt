@@ -6,18 +6,14 @@ ghost use Rattle.package_judge.specs.Packages.{plain, IsLimited};
 ghost use Rattle.linear_form.specs.Translation.{IsCount, signed, coefficient, row_of, side_of, program_of, package_from, IsAnswered, TranslationKeepsMeaning};
 
 use crate::limits::row_bound;
+use crate::query::{BoundConjunct, BoundQuery, Measure, Side};
 use lin_bound::Problem;
 use package_judge::{Package, Pair};
-use crate::query::{BoundConjunct, BoundQuery, Measure, Side};
 use sqlite_items::Items;
 use std::alloc::{AllocError, Global};
 
 /// The program of a question: a variable for each value, and a row for each condition.
-pub fn program_of(
-    alloc: Global,
-    values: &[i64],
-    query: &BoundQuery,
-) -> Result<Problem, AllocError>
+pub fn program_of(alloc: Global, values: &[i64], query: &BoundQuery) -> Result<Problem, AllocError>
     requires { IsAnswered (question values.now query.now) }
     ensures { IfOk result (λ problem. problem ≡ program_of (question values.now query.now)) }
 {

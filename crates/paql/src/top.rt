@@ -64,4 +64,3 @@ fn code_of(end: SessionEnd) -> u8
         SessionEnd::SessionLimit => 7,
     }
 }
-

@@ -37,7 +37,6 @@ pub struct Session {
 impl Model for Session {
     ghost use Rattle.std.specs.Prelude.{List};
     ghost use Rattle.paql_ast.specs.declared.statements.Statement.{Statement};
-
     ghost use Rattle.std.specs.Coded.{codes};
     ghost use Rattle.paql_ast.specs.contracts.predicates.Pred as pred;
 
@@ -82,11 +81,7 @@ impl Session {
 }
 
 // What the statement is behind these changes.
-fn find(
-    alloc: Global,
-    changes: &[Statement],
-    statement: &Statement,
-) -> Result<Built, AllocError>
+fn find(alloc: Global, changes: &[Statement], statement: &Statement) -> Result<Built, AllocError>
     ensures { IfOk result (λ found. Finds changes.now statement.now found) }
 {
     match changes {
@@ -109,11 +104,7 @@ fn first(statement: &Statement) -> Built
 }
 
 // What it is where the table is there without rows.
-fn second(
-    alloc: Global,
-    create: &Statement,
-    statement: &Statement,
-) -> Result<Built, AllocError>
+fn second(alloc: Global, create: &Statement, statement: &Statement) -> Result<Built, AllocError>
     ensures { IfOk result (λ found. Finds (create.now ∷ []) statement.now found) }
 {
     if !is_create(create) {

@@ -70,17 +70,19 @@ module _ (left_old left_now written_old written_now : Option (List ℕ)) (c d : 
   -- nothing was written
   pub passes : Turns c Passed d → IsRunning left_old left_now written_old written_now d taken × (work taken d < work taken c)
   passes turns =
-      let turned = turns run.bytes run.frames run.replies run.serving in
-      (record {
-        bytes = run.bytes;
-        frames = run.frames;
-        replies = run.replies;
-        consumed = run.consumed;
-        written = run.written;
-        serving = turned.0;
-        counted = run.counted;
-        few = run.few;
-      }, omega (arith, turned.1))
+      let turned = turns run.bytes run.frames run.replies run.serving in (
+        record {
+          bytes = run.bytes;
+          frames = run.frames;
+          replies = run.replies;
+          consumed = run.consumed;
+          written = run.written;
+          serving = turned.0;
+          counted = run.counted;
+          few = run.few;
+        },
+        omega (arith, turned.1),
+      )
 
   -- a reply was written
   answered : (reply : ReplyData) (written_new : Option (List ℕ)) → Answered run.bytes run.frames run.replies reply d → Appends written_now written_new (reply_text reply)
@@ -190,17 +192,19 @@ module _ (left_old left_now written_old written_now : Option (List ℕ)) (c d : 
   pub goes_on : (left_new : Option (List ℕ)) (count : ℕ) (e : Conversation) → Turns c Need d → TakesMore (2 ^ 30 - taken) left_now left_new count d e
       → IsRunning left_old left_new written_old written_now e (taken + count) × (work (taken + count) e < work taken c)
   goes_on left_new count e turns takes =
-      let turned = turns run.bytes run.frames run.replies run.serving in
-      (record {
-        bytes = run.bytes ++ takes.piece;
-        frames = run.frames;
-        replies = run.replies;
-        consumed = Consumes-trans left_old left_now left_new run.bytes takes.piece run.consumed takes.consumed;
-        written = run.written;
-        serving = takes.stands run.bytes run.frames run.replies turned.0;
-        counted = length-append run.bytes takes.piece ∙ ap (λ (n : ℕ). n + length takes.piece) run.counted ∙ ap (λ (n : ℕ). taken + n) takes.counted;
-        few = omega (arith, run.few, takes.most);
-      }, omega (arith, turned.2, takes.size_is, takes.some, takes.most, run.few))
+      let turned = turns run.bytes run.frames run.replies run.serving in (
+        record {
+          bytes = run.bytes ++ takes.piece;
+          frames = run.frames;
+          replies = run.replies;
+          consumed = Consumes-trans left_old left_now left_new run.bytes takes.piece run.consumed takes.consumed;
+          written = run.written;
+          serving = takes.stands run.bytes run.frames run.replies turned.0;
+          counted = length-append run.bytes takes.piece ∙ ap (λ (n : ℕ). n + length takes.piece) run.counted ∙ ap (λ (n : ℕ). taken + n) takes.counted;
+          few = omega (arith, run.few, takes.most);
+        },
+        omega (arith, turned.2, takes.size_is, takes.some, takes.most, run.few),
+      )
 
   -- nothing came
   reads_none : (left_new : Option (List ℕ)) → Consumes left_now left_new [] → Consumes left_old left_new run.bytes

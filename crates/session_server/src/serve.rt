@@ -33,11 +33,7 @@ pub enum SessionEnd {
 
 /// Answers the statements of a source, from no table on. It reads only where the bytes taken hold no further whole
 /// statement and every reply so far is written.
-pub fn serve_session<S: Source, K: Sink>(
-    alloc: Global,
-    source: &mut S,
-    sink: &mut K,
-) -> SessionEnd
+pub fn serve_session<S: Source, K: Sink>(alloc: Global, source: &mut S, sink: &mut K) -> SessionEnd
     ensures ends { EndsWith (S.left source.old) (S.left source.new) (K.written sink.old) (K.written sink.new) result }
     ensures cause { HasCause (S.faults source.old) (S.faults source.new) (K.faults sink.old) (K.faults sink.new) result }
     ensures complete { IsWholeScript (S.left source.old) → IsDoneOrFault result }
@@ -75,11 +71,7 @@ enum Input {
 }
 
 // Reads once, where room for more bytes is left, and hands them on.
-fn read_more<S: Source>(
-    source: &mut S,
-    conversation: &mut Conversation,
-    room: usize,
-) -> Input
+fn read_more<S: Source>(source: &mut S, conversation: &mut Conversation, room: usize) -> Input
     ensures later { S.faults source.old ≤ S.faults source.new }
     ensures read { Reads room (S.left source.old) (S.left source.new) (S.faults source.old) (S.faults source.new) conversation.old result conversation.new }
 {
