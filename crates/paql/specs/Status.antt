@@ -1,5 +1,5 @@
 -- The statuses of the top call, and what stands at each.
-use Rattle.std.specs.Prelude.{◌≡◌, ◌⊎◌, ℕ, List, [], ◌∷◌, Option, String, codes, string_bytes}
+use Rattle.std.specs.Prelude.{◌≡◌, ℕ, List, [], ◌∷◌, Option, String, codes, string_bytes}
 use Rattle.std.specs.declared.alloc.Global.{Global}
 use Rattle.session_server.specs.Ends.{EndsWith, HasCause, IsWholeScript, IsDoneOrFault}
 use Rattle.session_server.specs.declared.serve.SessionEnd.{SessionEnd}

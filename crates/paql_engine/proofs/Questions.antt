@@ -1,12 +1,12 @@
 -- A statement behind the table and its rows: a query of them, or none that is answered.
-use Rattle.std.proofs.Common.{◌≡◌, List, [], ◌∷◌, ℤ, refl, sym, ap, ◌∙◌, subst, inl, inr}
+use Rattle.std.proofs.Common.{◌≡◌, List, [], ◌∷◌, ℤ, refl, sym, ap, ◌∙◌, subst}
 use Rattle.paql_ast.specs.declared.statements.Statement.{Statement}
-use Rattle.linear_form.specs.Questions.{Question, question, AreItems, InRange, IsAsked}
+use Rattle.linear_form.specs.Questions.{Question, question, AreItems, InRange}
 use Rattle.linear_form.specs.Translation.{IsAnswered}
 use Rattle.linear_form.specs.declared.query.BoundQuery.{BoundQuery}
 use Rattle.paql_engine.specs.Built.{IsCreate, IsInsert, IsQuery}
 use Rattle.paql_engine.specs.Found.{Finds, IsQuestionOr}
-use Rattle.paql_engine.specs.Steps.{HasTable, HasValues, IsCreation, IsInsertion, IsQuestion, IsOther}
+use Rattle.paql_engine.specs.Steps.{HasValues, IsCreation, IsInsertion, IsQuestion}
 use Rattle.paql_engine.specs.declared.session.Built.{Built}
 use Rattle.paql_engine.specs.declared.session.Built.TheVariants as built
 use Rattle.paql_engine.proofs.BuiltOnce.{values_once, query_once}

@@ -1,5 +1,5 @@
 -- Which statements are performed so far: the trees of a table of one column of whole numbers, of its rows, and of a query.
-use Rattle.std.specs.Prelude.{◌≡◌, ℕ, ◌≤◌, Bool, true, false, List, [], ◌∷◌, Option, Some, None, ℤ, pos, codes}
+use Rattle.std.specs.Prelude.{◌≡◌, ℕ, true, false, List, [], ◌∷◌, Option, Some, None, ℤ, pos, codes}
 use Rattle.std.specs.Int.RustNames.{unsigned_abs}
 use Rattle.pq_base.specs.Decimal.{is_negative}
 use Rattle.pq_base.specs.declared.scaled.Scaled.{Scaled}

@@ -1,5 +1,5 @@
 -- What is found of a statement before it is performed.
-use Rattle.std.specs.Prelude.{◌≡◌, ℕ, List, length, ℤ}
+use Rattle.std.specs.Prelude.{◌≡◌, List, length, ℤ}
 use Rattle.linear_form.specs.Questions.{question}
 use Rattle.linear_form.specs.Translation.{IsAnswered}
 use Rattle.linear_form.specs.declared.query.BoundQuery.{BoundQuery}

@@ -1,5 +1,5 @@
 -- What a statement does to a session, and its reply: one row for each kind of statement.
-use Rattle.std.specs.Prelude.{◌≡◌, ◌⊎◌, ℕ, List, [], ◌∷◌, ◌++◌, length, ℤ, codes}
+use Rattle.std.specs.Prelude.{◌≡◌, ◌⊎◌, List, [], ◌∷◌, ◌++◌, length, ℤ, codes}
 use Rattle.linear_form.specs.Questions.{Question, AreItems, InRange}
 use Rattle.linear_form.specs.Translation.{IsAnswered}
 use Rattle.paql_ast.specs.declared.statements.Statement.{Statement}

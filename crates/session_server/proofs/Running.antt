@@ -5,7 +5,7 @@ use Rattle.std.proofs.lemmas.Grind.{flat_map-append}
 use Rattle.paql_ast.specs.declared.statements.Statement.{Statement}
 use Rattle.session_proto.specs.Input.{Input, fed}
 use Rattle.session_proto.proofs.SessionSteps.{stands_fed}
-use Rattle.std.specs.Io.KnownBytes.{Consumes, Appends, IsAtEnd}
+use Rattle.std.specs.Io.KnownBytes.{Consumes, Appends}
 use Rattle.std.proofs.KnownBytes.{Appends-trans, Consumes-trans}
 use Rattle.pq_base.specs.Outside.{Rose}
 use Rattle.session_proto.specs.Replies.{ReplyData, reply_text, refusal}

@@ -1,5 +1,5 @@
 -- What each call of a framer does to a conversation.
-use Rattle.std.proofs.Common.{◌≡◌, ℕ, ◌+◌, ◌*◌, ◌-◌, ◌<◌, ◌≤◌, min, Option, None, Some, List, [], ◌∷◌, ◌++◌, length, drop, inl, refl, sym, ap, subst, arith, length-drop, length-append}
+use Rattle.std.proofs.Common.{◌≡◌, ℕ, ◌+◌, ◌*◌, ◌<◌, ◌≤◌, min, Option, None, Some, List, [], ◌∷◌, ◌++◌, length, inl, refl, sym, ap, subst, arith, length-drop, length-append}
 use Rattle.std.specs.List.{flat_map}
 use Rattle.std.proofs.lemmas.List.{append-nil}
 use Rattle.paql_ast.specs.declared.statements.Statement.{Statement}
@@ -8,7 +8,7 @@ use Rattle.session_proto.specs.Input.{Input, Content, absent, held, skipped, IsC
 use Rattle.session_proto.specs.Replies.{ReplyData}
 use Rattle.session_proto.specs.Sessions.{Frame, Begins, AreFrames, Stands}
 use Rattle.session_proto.specs.declared.framer.Awaited.{Awaited}
-use Rattle.session_proto.proofs.SessionSteps.{stands_at_first, stands_fed, needs_at_end, too_long_at_end}
+use Rattle.session_proto.proofs.SessionSteps.{stands_fed, needs_at_end, too_long_at_end}
 use Rattle.session_proto.proofs.CleanEnds.{clean_at_end}
 use Rattle.session_server.specs.declared.conversation.Conversation.{Conversation}
 use Rattle.session_server.specs.Transcript.{IsLoad, Transcript}

@@ -1,12 +1,11 @@
-use Rattle.std.proofs.Common.{◌≡◌, ◌∙◌, sym, ap, inl, inr, rules, map}
-use Rattle.std.specs.List.{AllByRecursion}
+use Rattle.std.proofs.Common.{◌≡◌, ◌∙◌, ap, inl, inr, rules, map}
 use Rattle.std.proofs.lemmas.Int.{to_z-of_z}
 use Rattle.std.proofs.lemmas.Result.{IfOk-weaker}
 use Rattle.std.specs.Int.{w64}
 use Rattle.std.specs.Int.RustNames.{FitsSigned}
 use Rattle.package_judge.specs.Packages.{plain}
 use Rattle.linear_form.specs.Questions.{question}
-use Rattle.linear_form.specs.Translation.{IsCount, package_from}
+use Rattle.linear_form.specs.Translation.{package_from}
 use Rattle.paql_engine.specs.Answers.{AnswersQuery}
 use Rattle.paql_engine.specs.Replies as replies
 use Rattle.paql_engine.specs.Searched.{Shows}

@@ -1,6 +1,4 @@
-use Rattle.std.proofs.Common.{subst, arith}
-use Rattle.std.specs.Io.KnownBytes.{Appends}
-use Rattle.session_server.specs.Streams.{WritesFront}
+use Rattle.std.proofs.Common.{arith}
 use Rattle.session_server.proofs.Complete.{is_whole}
 use Rattle.session_server.proofs.Running.{passes, replies_to, wants, replies_some, wants_some, too_long, goes_on, ends_so}
 use Rattle.session_server.proofs.serve.serve_session.Goals as goal

@@ -1,6 +1,5 @@
-use Rattle.std.proofs.Common.{rules, ◌≡◌, ℤ, w64}
+use Rattle.std.proofs.Common.{rules, w64}
 use Rattle.std.proofs.lemmas.Int.{to_z-of_z}
-use Rattle.schema_types.specs.declared.Lit.{Lit}
 use Rattle.linear_form.specs.Questions.{InRange}
 use Rattle.paql_engine.specs.Built.{IsRow}
 use Rattle.paql_engine.proofs.BuiltTrees.{agree_turn, valid_more, none_agrees}
