@@ -14,7 +14,7 @@ use std::alloc::{AllocError, Global};
 /// What came of one turn.
 #[derive(Drop)]
 pub(crate) enum Turn {
-    /// A statement was framed whose body is to come.
+    /// No frame was answered: the statement that was framed waits for its body, or there was none.
     Passed,
     /// A frame was answered by these bytes.
     Replied(Vec<u8>),

@@ -12,7 +12,7 @@ use schema_types::{Column, Kind, Lit};
 use sqlite_items::Items;
 use std::alloc::{AllocError, Global};
 
-// The greatest number of a script, and with a minus the least.
+// The greatest value, and with a minus the least.
 const MOST: u64 = 1_000_000_000_000;
 
 /// The statement is `CREATE TABLE T (v INT)`.
