@@ -1,7 +1,8 @@
 //! All statements.
-ghost use Rattle.std.specs.Prelude.{◌≡◌, IfOk, OnOk};
+ghost use Rattle.std.specs.Prelude.{◌≡◌, ℕ, List, IfOk, OnOk};
 ghost use Rattle.paql_ast.specs.declared.statements.Statement.TheVariants as statements;
 ghost use Rattle.paql_grammar.specs.Print as print;
+ghost use Rattle.paql_grammar.specs.Texts.{IsStatement};
 ghost use Rattle.paql_canonical.specs.Texts.{canonical_text};
 ghost use Rattle.paql_printer.specs.Fronts.{written};
 
@@ -139,7 +140,10 @@ fn lexemes(writer: &mut Writer, statement: &Statement) -> Result<(), AllocError>
 /// it would be a keyword. One space stands between two lexemes, but none beside a point, behind `(`, in front
 /// of `)` and `,`, between PACKAGE, COUNT, SUM, AVG or DEC and its bracket, and behind a minus that is a sign.
 pub fn print(alloc: Global, statement: &Statement) -> Result<Vec<u8>, AllocError>
-    ensures { IfOk result (λ text. text.items ≡ canonical_text statement.now) }
+    ensures canonical { IfOk result (λ text. text.items ≡ canonical_text statement.now) }
+
+    // Where some text is one of the statement, so is this, and of no other statement: parsing it gives the statement.
+    ensures read { IfOk result (λ text. (source : List ℕ) → IsStatement source statement.now → IsStatement text.items statement.now) }
 {
     let mut writer = Writer::new(alloc);
     lexemes(&mut writer, statement)?;
