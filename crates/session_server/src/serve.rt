@@ -107,3 +107,6 @@ fn end_of(conversation: &Conversation) -> SessionEnd
         SessionEnd::Truncated
     }
 }
+
+#[cfg(test)]
+mod tests;
