@@ -65,3 +65,5 @@ fn code_of(end: SessionEnd) -> u8
     }
 }
 
+#[cfg(test)]
+mod tests;
