@@ -99,3 +99,6 @@ fn end_of(conversation: &Conversation) -> SessionEnd
         SessionEnd::Truncated
     }
 }
+
+#[cfg(test)]
+mod tests;
