@@ -64,9 +64,6 @@ fn code_of(end: SessionEnd) -> u8
         SessionEnd::SessionLimit => 7,
     }
 }
-<<<<<<< HEAD
-=======
 
 #[cfg(test)]
 mod tests;
->>>>>>> e6c3f99d013c54c4bf063757d277371d26a91780
