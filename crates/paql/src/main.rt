@@ -4,25 +4,53 @@
 mod top;
 
 use pq_base::{OpenGate, ReadSource, WriteSink};
-use std::env;
 use std::process::ExitCode;
+use std::{env, io};
+use thiserror::Error;
 use top::Status;
 
-// The command line's words behind the program's name; no list where one isn't text.
-fn words(rt: &HostRuntime) -> Option<Vec<String>> {
-    let mut words = Vec::new(rt.alloc());
-    for word in env::args(rt).ok()?.skip(1) {
-        words.push(word).ok()?;
+/// Why the command line gives no words.
+#[derive(Clone, Copy, Debug, PartialEq, Eq, Error)]
+enum WordsFault {
+    #[error("a word is no text")]
+    NotText,
+    #[error("no memory is left")]
+    Memory,
+}
+
+impl WordsFault {
+    fn of(fault: io::Error) -> WordsFault {
+        match fault.kind() {
+            io::ErrorKind::OutOfMemory => WordsFault::Memory,
+            _ => WordsFault::NotText,
+        }
     }
-    Some(words)
+
+    fn status(self) -> Status {
+        match self {
+            WordsFault::NotText => Status { code: 2 },
+            WordsFault::Memory => Status { code: 5 },
+        }
+    }
+}
+
+// The command line's words behind the program's name.
+fn words(rt: &HostRuntime) -> Result<Vec<String>, WordsFault> {
+    let mut words = Vec::new(rt.alloc());
+    for word in env::args(rt).map_err(WordsFault::of)?.skip(1) {
+        if words.push(word).is_err() {
+            return Err(WordsFault::Memory);
+        }
+    }
+    Ok(words)
 }
 
 fn main(rt: HostRuntime) -> ExitCode {
     let mut source = ReadSource::new(rt.stdin());
     let mut sink = WriteSink::new(rt.stdout());
     let status = match words(&rt) {
-        Some(words) => top::paql_top(&rt, rt.alloc(), &words, &mut source, &mut sink, &OpenGate),
-        None => Status { code: 2 },
+        Ok(words) => top::paql_top(&rt, rt.alloc(), &words, &mut source, &mut sink, &OpenGate),
+        Err(fault) => fault.status(),
     };
     ExitCode::from(status.code)
 }

@@ -67,6 +67,10 @@ texts_more replies reply = flat_map-append reply_text replies (reply ∷ []) ∙
 -- ---- one turn
 
 module _ (left_old left_now written_old written_now : Option (List ℕ)) (c d : Conversation) (taken : ℕ) (run : IsRunning left_old left_now written_old written_now c taken) where
+  -- not too many bytes were taken
+  within : length run.bytes ≤ 2 ^ 30
+  within = omega (arith, run.counted, run.few)
+
   -- nothing was written
   pub passes : Turns c Passed d → IsRunning left_old left_now written_old written_now d taken × (work taken d < work taken c)
   passes turns =
@@ -118,6 +122,7 @@ module _ (left_old left_now written_old written_now : Option (List ℕ)) (c d : 
     frames = run.frames ++ is.0 ∷ [];
     replies = run.replies ++ reply ∷ [];
     read = run.consumed;
+    most = within;
     performed = performed run.bytes (run.frames ++ is.0 ∷ []) (run.replies ++ reply ∷ []) d is.1;
     written = record {
       front = texts run.replies ++ some.front;
@@ -147,6 +152,7 @@ module _ (left_old left_now written_old written_now : Option (List ℕ)) (c d : 
     replies = run.replies;
     written_replies = run.replies;
     read = run.consumed;
+    most = within;
     performed = performed;
     all_or_but_one = inl refl;
     written = run.written;
@@ -157,6 +163,7 @@ module _ (left_old left_now written_old written_now : Option (List ℕ)) (c d : 
     replies = run.replies ++ reply ∷ [];
     written_replies = run.replies;
     read = run.consumed;
+    most = within;
     performed = performed;
     all_or_but_one = inr (reply, refl);
     written = run.written;
@@ -175,6 +182,7 @@ module _ (left_old left_now written_old written_now : Option (List ℕ)) (c d : 
     replies = run.replies;
     changes = c.session;
     read = read;
+    most = within;
     are = are;
     transcript = run.serving.transcript;
     written = run.written;
@@ -230,7 +238,7 @@ module _ (left_old left_now written_old written_now : Option (List ℕ)) (c d : 
       let turned = turns run.bytes run.frames run.replies run.serving in
       let all = turned.1 in
       (transcript_of all.rest left_new (reads_none left_new none.consumed) all.are, omega (arith, run.counted, no_room), all.not_long)
-  ends_so left_new before now ends.Memory e turns (piece, consumed, same) =
+  ends_so left_new before now ends.Memory e turns (piece, consumed, short, same) =
       let turned = turns run.bytes run.frames run.replies run.serving in
       record {
         bytes = run.bytes ++ piece;
@@ -238,6 +246,7 @@ module _ (left_old left_now written_old written_now : Option (List ℕ)) (c d : 
         replies = run.replies;
         written_replies = run.replies;
         read = Consumes-trans left_old left_now left_new run.bytes piece run.consumed consumed;
+        most = omega (arith, length-append run.bytes piece, run.counted, run.few, short);
         performed = performed_more run.bytes piece run.frames run.replies d turned.0;
         all_or_but_one = inl refl;
         written = run.written;

@@ -11,6 +11,8 @@ use Rattle.session_server.specs.Transcript.{IsLoad, Transcript, texts}
 use Rattle.session_server.specs.declared.serve.SessionEnd.{SessionEnd}
 use Rattle.session_server.specs.declared.serve.SessionEnd.TheVariants.{Done, Truncated, ReadFault, WriteFault, Memory, TooLong, SessionLimit}
 
+-- A session takes no more than 2^30 bytes.
+
 -- the bytes that were read are these frames and the rest, and just their replies were written
 pub record IsTranscript (left_old left_new written_old written_new : Option (List ℕ)) : Type 0 where
   pub bytes : List ℕ
@@ -19,6 +21,7 @@ pub record IsTranscript (left_old left_new written_old written_new : Option (Lis
   pub replies : List ReplyData
   pub changes : List Statement
   pub read : Consumes left_old left_new bytes
+  pub most : length bytes ≤ 2 ^ 30
   pub are : AreFrames IsLoad bytes frames rest
   pub transcript : Transcript [] frames replies changes
   pub written : Appends written_old written_new (texts replies)
@@ -29,6 +32,7 @@ pub record WritesSome (left_old left_new written_old written_new : Option (List 
   pub frames : List Frame
   pub replies : List ReplyData
   pub read : Consumes left_old left_new bytes
+  pub most : length bytes ≤ 2 ^ 30
   pub performed : ArePerformed bytes frames replies
   pub written : WritesFront written_old written_new (texts replies)
 
@@ -39,6 +43,7 @@ pub record WritesWhole (left_old left_new written_old written_new : Option (List
   pub replies : List ReplyData
   pub written_replies : List ReplyData
   pub read : Consumes left_old left_new bytes
+  pub most : length bytes ≤ 2 ^ 30
   pub performed : ArePerformed bytes frames replies
   pub all_or_but_one : (written_replies ≡ replies) ⊎ ((last : ReplyData) × (replies ≡ written_replies ++ last ∷ []))
   pub written : Appends written_old written_new (texts written_replies)

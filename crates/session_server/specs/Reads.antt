@@ -38,7 +38,7 @@ Reads room old new before now c (End Done) d = TakesNone old new c d × IsAtEnd 
 Reads room old new before now c (End Truncated) d = TakesNone old new c d × IsAtEnd new × ¬ IsClean c
 Reads room old new before now c (End ReadFault) d = TakesNone old new c d × Rose before now
 Reads room old new before now c (End SessionLimit) d = TakesNone old new c d × (room ≡ 0)
-Reads room old new before now c (End Memory) d = (piece : List ℕ) × Consumes old new piece × (d ≡ c)
+Reads room old new before now c (End Memory) d = (piece : List ℕ) × Consumes old new piece × (length piece ≤ room) × (d ≡ c)
 Reads room old new before now c (End end) d = ⊥
 
 -- how a session ends where its input ends
