@@ -1,13 +1,13 @@
 -- What a tree that is made of records shows.
 use Rattle.std.proofs.Common.{◌≡◌, ◌≢◌, ℕ, suc, ◌+◌, ◌<◌, Bool, true, false, cond, List, [], ◌∷◌, ◌++◌, map, length, refl, ap, subst, arith, All, Contains, sum_by}
-use Rattle.std.specs.Prelude.{ℤ, Option}
+use Rattle.std.specs.Prelude.{ℤ, Option, None}
 use Rattle.std.specs.List.{AllByRecursion}
-use Rattle.std.proofs.lemmas.List.Elements.{recursion_from_All, All-append, All-map, All-nil, Contains-append_right}
+use Rattle.std.proofs.lemmas.List.Elements.{recursion_from_All, All-append, All-map, All-nil, All-weaker, Contains-append_right}
 use Rattle.std.proofs.lemmas.List.Sorted.{All-permutation, sum_by-IsPermutation, length_permutation}
 use Rattle.std.proofs.lemmas.List.{length-append, length-map}
 use Rattle.std.proofs.lemmas.List.Sums.{sum_by-cons, sum_by-append}
 use Rattle.lin_bound.specs.Problem.{ProblemData}
-use Rattle.lin_bound.specs.Box.{whole_box, half, cut, box_at}
+use Rattle.lin_bound.specs.Box.{whole_box, half, cut, box_at, lower, upper}
 use Rattle.lin_bound.specs.declared.region.Region.{Region}
 use Rattle.lin_bound.specs.declared.path.Branch.{Branch}
 use Rattle.cert_tree.specs.declared.nodes.TreeNode.{TreeNode}
@@ -16,11 +16,11 @@ use Rattle.cert_tree.specs.declared.records.Act.TheVariants.{Split as SplitAct}
 use Rattle.cert_tree.specs.declared.records.Record.{Record}
 use Rattle.cert_tree.specs.declared.records.Piece.{Piece}
 use Rattle.cert_tree.specs.declared.records.Piece.TheVariants.{Done, Left}
-use Rattle.cert_tree.specs.Records.{lower, upper}
 use Rattle.cert_tree.specs.Trees.{IsWhole, Laid, pieces_of, IsAssembled}
 use Rattle.cert_tree.specs.Certificates.{Certify}
 use Rattle.cert_tree.specs.Partial.{PartlyCertify, is_done}
-use Rattle.cert_tree.specs.Laws.{IsRight, IsPlainlyRight, AssembledCertifies, AssembledPartly}
+use Rattle.cert_tree.proofs.Values.{was_plainly_right}
+use Rattle.cert_tree.specs.Laws.{IsRight, IsPlainlyRight, WasPlainlyRight, AssembledCertifies, AssembledPartly}
 
 -- what is laid is whole, one tree for each path
 pub whole_laid : (paths : List (List Branch)) (nodes : List TreeNode) (pieces : List Piece) → Laid paths nodes pieces → IsWhole (length paths) nodes
@@ -77,14 +77,14 @@ assembled_certifies p best records nodes made right =
 
 -- a piece is a left path, or a record that is right
 abbrev PartPiece : ProblemData → Option ℤ → Piece → Type 0
-PartPiece p best (Done done) = IsPlainlyRight p best done.path done.act
+PartPiece p best (Done done) = IsPlainlyRight p best None done.path done.act
 PartPiece p best (Left path) = Unit {0}
 
 partly_laid : (p : ProblemData) (best : Option ℤ) (paths : List (List Branch)) (nodes : List TreeNode) (pieces : List Piece) → Laid paths nodes pieces → AllByRecursion (PartPiece p best) pieces → PartlyCertify p best (boxes_at p paths) nodes
 partly_laid p best [] [] [] laid right = tt
 partly_laid p best (path ∷ paths) (Leaf mult ∷ nodes) (piece ∷ pieces) laid right = (subst (PartPiece p best) laid.0 right.0, partly_laid p best paths nodes pieces laid.1 right.1)
 partly_laid p best (path ∷ paths) (Split var at mult ∷ nodes) (piece ∷ pieces) laid right =
-    let here : IsPlainlyRight p best path (SplitAct var at mult) = subst (PartPiece p best) laid.0 right.0 in
+    let here : IsPlainlyRight p best None path (SplitAct var at mult) = subst (PartPiece p best) laid.0 right.0 in
     (here.0, here.1, at_halves (λ (boxes : List Region). PartlyCertify p best boxes nodes) p path paths var at (partly_laid p best ((path ++ lower var at ∷ []) ∷ ((path ++ upper var at ∷ []) ∷ paths)) nodes pieces laid.1 right.1))
 partly_laid p best (path ∷ paths) (Open ∷ nodes) (piece ∷ pieces) laid right = partly_laid p best paths nodes pieces laid.1 right.1
 partly_laid p best [] [] (piece ∷ pieces) laid right = absurd laid
@@ -154,12 +154,12 @@ some_left [] more = absurd (more refl)
 some_left (path ∷ left) more = omega arith
 
 -- each piece of right records and left paths is right
-pieces_right : (p : ProblemData) (best : Option ℤ) (records : List Record) (left : List (List Branch)) → All (λ (done : Record). IsPlainlyRight p best done.path done.act) records → All (PartPiece p best) (pieces_of records left)
+pieces_right : (p : ProblemData) (best : Option ℤ) (records : List Record) (left : List (List Branch)) → All (λ (done : Record). IsPlainlyRight p best None done.path done.act) records → All (PartPiece p best) (pieces_of records left)
 pieces_right p best records left right =
     All-append (PartPiece p best) (map Done records) (map Left left) (All-map (PartPiece p best) Done records right) (All-map (PartPiece p best) Left left (λ k d h. tt))
 
 -- of right records, whatever is left
-pub assembled_parts : (p : ProblemData) (best : Option ℤ) (records : List Record) (left : List (List Branch)) (nodes : List TreeNode) → IsAssembled records left nodes → All (λ (done : Record). IsPlainlyRight p best done.path done.act) records → PartlyCertify p best (whole_box p ∷ []) nodes
+pub assembled_parts : (p : ProblemData) (best : Option ℤ) (records : List Record) (left : List (List Branch)) (nodes : List TreeNode) → IsAssembled records left nodes → All (λ (done : Record). IsPlainlyRight p best None done.path done.act) records → PartlyCertify p best (whole_box p ∷ []) nodes
 assembled_parts p best records left nodes made right =
     partly_laid p best ([] ∷ []) nodes made.order made.laid (recursion_from_All (PartPiece p best) made.order (All-permutation (PartPiece p best) (pieces_of records left) made.order made.all (pieces_right p best records left right)))
 
@@ -169,8 +169,9 @@ assembled_length records left nodes made =
     omega (arith, length_laid ([] ∷ []) nodes made.order made.laid, length_permutation (pieces_of records left) made.order made.all, length-append (map Done records) (map Left left), length-map records Done, length-map left Left)
 
 pub assembled_partly : AssembledPartly
-assembled_partly p best records left nodes made right more =
+assembled_partly p best records left nodes made were more =
     let among = pieces_of records left in
+    let right : All (λ (done : Record). IsPlainlyRight p best None done.path done.act) records = All-weaker (WasPlainlyRight p best) (λ (done : Record). IsPlainlyRight p best None done.path done.act) (was_plainly_right p best) records were in
     let count : sum_by by_done nodes ≡ length records = omega (arith, count_laid ([] ∷ []) nodes made.order made.laid, sum_by-IsPermutation by_record among made.order made.all, sum_by-append by_record (map Done records) (map Left left), count_records records, count_left left) in
     record {
       each = count;

@@ -8,7 +8,8 @@ use Rattle.lin_bound.specs.declared.mult.Mult.{Mult}
 use Rattle.cert_tree.specs.declared.records.Act.{Act}
 use Rattle.cert_tree.specs.declared.records.Act.TheVariants.{Closed, Split}
 use Rattle.cert_tree.specs.declared.records.Record.{Record}
-use Rattle.cert_tree.specs.Records.{lower, upper, children_of, children, path_in, BalancedFrom, IsBalanced}
+use Rattle.lin_bound.specs.Box.{lower, upper}
+use Rattle.cert_tree.specs.Records.{children_of, children, path_in, BalancedFrom, IsBalanced}
 
 -- a left path that is done goes to the records, and its children to the left paths
 pub balanced_more : (pending : List (List Branch)) (records : List Record) (left : List (List Branch)) (place : ℕ) (path : List Branch) (act : Act) → place < length left → path ≡ get_or left place path → BalancedFrom pending records left → BalancedFrom pending (records ++ record { path = path; act = act } ∷ []) (remove left place ++ children_of path act)

@@ -5,14 +5,13 @@ use Rattle.std.specs.Int.{int_max, int_div_euclid}
 use Rattle.std.proofs.lemmas.Int.{ints, clamps}
 use Rattle.std.proofs.lemmas.Nat.{le-div, div_below}
 use Rattle.lin_bound.specs.Problem.{ProblemData, cost_at, IsFeasible}
-use Rattle.lin_bound.specs.Box.{whole_box, half, IsInBox}
+use Rattle.lin_bound.specs.Box.{whole_box, half, IsInBox, lower, upper}
 use Rattle.lin_bound.specs.Bound.{bound_of, plain}
 use Rattle.lin_bound.specs.Laws.{WeakDuality, NotAbove, ClosedHoldsNone, HalvesCover}
 use Rattle.lin_bound.specs.declared.region.Region.{Region}
 use Rattle.lin_bound.specs.declared.mult.Mult.{Mult}
 use Rattle.cert_tree.specs.declared.nodes.TreeNode.{TreeNode}
 use Rattle.cert_tree.specs.declared.nodes.TreeNode.TheVariants.{Leaf, Split, Open}
-use Rattle.cert_tree.specs.Records.{lower, upper}
 use Rattle.cert_tree.specs.Partial.{PartlyCertify, least_bound, bound_with, top, greatest_top, value_or_floor}
 use Rattle.cert_tree.specs.Laws.{PartialBounds}
 use Rattle.cert_tree.proofs.Soundness.{AllRegions, LiesIn, half_regions, half_lies, whole_region, whole_holds}

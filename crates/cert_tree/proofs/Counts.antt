@@ -6,12 +6,11 @@ use Rattle.std.proofs.lemmas.List.{get_or-replicate}
 use Rattle.std.specs.Prelude.{slice_set, ℤ, Option}
 use Rattle.lin_bound.specs.Sums.{nat_at}
 use Rattle.lin_bound.specs.Problem.{ProblemData, variables}
-use Rattle.lin_bound.specs.Box.{whole_box, half, Splits, IsRegion}
+use Rattle.lin_bound.specs.Box.{whole_box, half, Splits, IsRegion, lower, upper}
 use Rattle.lin_bound.specs.Laws.{HalvesCover}
 use Rattle.lin_bound.specs.declared.region.Region.{Region}
 use Rattle.cert_tree.specs.declared.nodes.TreeNode.{TreeNode}
 use Rattle.cert_tree.specs.declared.nodes.TreeNode.TheVariants.{Leaf, Split, Open}
-use Rattle.cert_tree.specs.Records.{lower, upper}
 use Rattle.cert_tree.specs.Partial.{PartlyCertify}
 use Rattle.cert_tree.specs.Counts.{points_below, NodesAreFew}
 use Rattle.cert_tree.proofs.Soundness.{AllRegions, half_regions, whole_region}

@@ -1,6 +1,6 @@
 -- How a tree is laid of pieces that fit.
-use Rattle.std.proofs.Common.{◌≡◌, ◌⊎◌, ℕ, zero, suc, ◌+◌, ◌-◌, ◌<◌, ◌≤◌, Bool, true, false, List, [], ◌∷◌, ◌++◌, map, take, reverse, length, get_or, refl, sym, ◌∙◌, ap, subst, arith, inl, inr, IsPermutation, sum_by, remove, flat_map, Some}
-use Rattle.std.specs.Prelude.{slice_get, slice_index_or}
+use Rattle.std.proofs.Common.{◌≡◌, ◌⊎◌, ℕ, zero, suc, ◌-◌, ◌<◌, Bool, true, false, List, [], ◌∷◌, ◌++◌, map, reverse, length, get_or, refl, sym, ◌∙◌, ap, subst, arith, inl, inr, IsPermutation, sum_by, remove, flat_map}
+use Rattle.std.specs.Prelude.{slice_index_or}
 use Rattle.std.specs.List.{HoldsAt}
 use Rattle.std.proofs.lemmas.Bool.{cases_eq, true≢false, false≢true}
 use Rattle.std.proofs.lemmas.List.{append-nil, append_assoc, reverse-append, reverse-reverse, length_push}
@@ -13,7 +13,8 @@ use Rattle.cert_tree.specs.declared.records.Act.TheVariants.{Closed as ClosedAct
 use Rattle.cert_tree.specs.declared.records.Record.{Record}
 use Rattle.cert_tree.specs.declared.records.Piece.{Piece}
 use Rattle.cert_tree.specs.declared.records.Piece.TheVariants.{Done, Left}
-use Rattle.cert_tree.specs.Records.{lower, upper, children_of, children, path_in, IsBalanced}
+use Rattle.lin_bound.specs.Box.{lower, upper}
+use Rattle.cert_tree.specs.Records.{children_of, children, path_in, IsBalanced}
 use Rattle.cert_tree.specs.Trees.{IsWhole, Laid, pieces_of, IsLaid}
 use Rattle.cert_tree.specs.Pieces.{path_of, node_by, node_of, children_in, IsAt, HasPath, weight_at, weight_below, Fits}
 use Rattle.cert_tree.proofs.Assembled.{whole_laid}

@@ -4,6 +4,7 @@ pub mod Assembled
 pub mod Laying
 pub mod Balance
 pub mod Tops
+mod Greatest
 pub mod Walking
 mod Worked
 pub mod Values

@@ -9,7 +9,7 @@ use Rattle.cert_tree.specs.declared.nodes.TreeNode.{TreeNode}
 use Rattle.cert_tree.specs.declared.nodes.TreeNode.TheVariants.{Leaf, Split, Open}
 use Rattle.cert_tree.specs.declared.records.Piece.{Piece}
 use Rattle.cert_tree.specs.declared.records.Piece.TheVariants.{Done, Left}
-use Rattle.cert_tree.specs.Records.{lower, upper}
+use Rattle.lin_bound.specs.Box.{lower, upper}
 use Rattle.cert_tree.specs.Trees.{Laid, pieces_of}
 use Rattle.cert_tree.specs.Multipliers.{ActIsLegal, HasLegalMult}
 use Rattle.cert_tree.specs.Laws.{AssembledLegal}

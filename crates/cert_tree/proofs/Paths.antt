@@ -6,13 +6,13 @@ use Rattle.std.proofs.lemmas.List.{length_push}
 use Rattle.std.proofs.lemmas.List.Elements.{recursion_from_All, All-from_recursion, All-append, All-nil, All-cons, All-weaker}
 use Rattle.std.proofs.lemmas.List.Sorted.{All-permutation, IsPermutation-sym}
 use Rattle.lin_bound.specs.Problem.{ProblemData}
-use Rattle.lin_bound.specs.Box.{whole_box, half, cut, box_at, Splits, AllSplit, IsPath}
+use Rattle.lin_bound.specs.Box.{whole_box, half, cut, box_at, Splits, AllSplit, IsPath, lower, upper}
 use Rattle.lin_bound.specs.declared.region.Region.{Region}
 use Rattle.lin_bound.specs.declared.path.Branch.{Branch}
 use Rattle.cert_tree.specs.declared.records.Act.{Act}
 use Rattle.cert_tree.specs.declared.records.Act.TheVariants.{Closed, Split}
 use Rattle.cert_tree.specs.declared.records.Record.{Record}
-use Rattle.cert_tree.specs.Records.{lower, upper, children_of, children, path_in, IsBalanced}
+use Rattle.cert_tree.specs.Records.{children_of, children, path_in, IsBalanced}
 use Rattle.cert_tree.specs.Laws.{IsRight, IsPlainlyRight}
 use Rattle.cert_tree.proofs.Soundness.{splits_above}
 
@@ -26,9 +26,10 @@ pub divides_right : (p : ProblemData) (best : Option ℤ) (path : List Branch) (
 divides_right p best path (Closed mult) right = tt
 divides_right p best path (Split var at mult) right = right
 
-pub divides_plainly : (p : ProblemData) (best : Option ℤ) (path : List Branch) (act : Act) → IsPlainlyRight p best path act → Divides p path act
-divides_plainly p best path (Closed mult) right = tt
-divides_plainly p best path (Split var at mult) right = right.0
+pub divides_plainly : (p : ProblemData) (best seen : Option ℤ) (path : List Branch) (act : Act)
+    → IsPlainlyRight p best seen path act → Divides p path act
+divides_plainly p best seen path (Closed mult) right = tt
+divides_plainly p best seen path (Split var at mult) right = right.0
 
 -- a branch that divides the box of a path leads to a path
 pub split_push : (box : Region) (path : List Branch) (branch : Branch) → AllSplit box path → Splits branch (cut box path) → AllSplit box (path ++ branch ∷ [])

@@ -4,12 +4,11 @@ use Rattle.std.proofs.lemmas.List.{length-replicate, get_or-replicate}
 use Rattle.std.specs.Prelude.{ℤ, Option, None, Some}
 use Rattle.lin_bound.specs.Sums.{nat_at}
 use Rattle.lin_bound.specs.Problem.{ProblemData, variables, cost_at, IsFeasible, IsLegal}
-use Rattle.lin_bound.specs.Box.{whole_box, half, Splits, IsRegion, IsInBox}
+use Rattle.lin_bound.specs.Box.{whole_box, half, Splits, IsRegion, IsInBox, lower, upper}
 use Rattle.lin_bound.specs.Laws.{NotAbove, ClosedHoldsNone, HalvesCover}
 use Rattle.lin_bound.specs.declared.region.Region.{Region}
 use Rattle.cert_tree.specs.declared.nodes.TreeNode.{TreeNode}
 use Rattle.cert_tree.specs.declared.nodes.TreeNode.TheVariants.{Leaf, Split, Open}
-use Rattle.cert_tree.specs.Records.{lower, upper}
 use Rattle.cert_tree.specs.Certificates.{Certify}
 use Rattle.cert_tree.specs.Laws.{CertifiedIsBest, CertifiedIsEmpty}
 

@@ -13,7 +13,8 @@ use Rattle.cert_tree.specs.declared.records.Act.{Act}
 use Rattle.cert_tree.specs.declared.records.Act.TheVariants.{Closed, Split}
 use Rattle.cert_tree.specs.Values.{IsAtMost}
 use Rattle.cert_tree.specs.Partial.{PlainlyOpen}
-use Rattle.cert_tree.specs.Laws.{IsRight, IsPlainlyRight}
+use Rattle.cert_tree.specs.declared.records.Record.{Record}
+use Rattle.cert_tree.specs.Laws.{IsRight, IsPlainlyRight, WasPlainlyRight}
 
 -- what closes a box for one value closes it for each greater one
 pub closes_more : (p : ProblemData) (box : Region) (mult : Mult) (value most : Option ℤ) → IsAtMost value most → Closes p box mult value → Closes p box mult most
@@ -40,11 +41,22 @@ pub right_more : (p : ProblemData) (value most : Option ℤ) (path : List Branch
 right_more p value most path (Closed mult) below right = closes_more p _ mult value most below right
 right_more p value most path (Split var at mult) below right = right
 
-pub plainly_right_more : (p : ProblemData) (value most : Option ℤ) (path : List Branch) (act : Act) → IsAtMost value most → IsPlainlyRight p value path act → IsPlainlyRight p most path act
-plainly_right_more p value most path (Closed mult) below right = closes_more p _ mult value most below right
-plainly_right_more p value most path (Split var at mult) below right = right
+pub plainly_right_more : (p : ProblemData) (value most seen : Option ℤ) (path : List Branch) (act : Act)
+    → IsAtMost value most → IsPlainlyRight p value seen path act → IsPlainlyRight p most seen path act
+plainly_right_more p value most seen path (Closed mult) below right = closes_more p _ mult value most below right
+plainly_right_more p value most seen path (Split var at mult) below right = right
+
+-- one that is plainly right, whatever value was seen for it, is so for no value seen
+pub plainly_right_none : (p : ProblemData) (best seen : Option ℤ) (path : List Branch) (act : Act)
+    → IsPlainlyRight p best seen path act → IsPlainlyRight p best None path act
+plainly_right_none p best seen path (Closed mult) right = right
+plainly_right_none p best seen path (Split var at mult) right = (right.0, plainly_open_none p _ seen right.1)
+
+pub was_plainly_right : (p : ProblemData) (best : Option ℤ) (done : Record) → WasPlainlyRight p best done → IsPlainlyRight p best None done.path done.act
+was_plainly_right p best done right = plainly_right_none p best right.0 done.path done.act right.1
 
 -- a record that is plainly right is right
-pub right_of_plainly : (p : ProblemData) (best : Option ℤ) (path : List Branch) (act : Act) → IsPlainlyRight p best path act → IsRight p best path act
-right_of_plainly p best path (Closed mult) right = right
-right_of_plainly p best path (Split var at mult) right = right.0
+pub right_of_plainly : (p : ProblemData) (best seen : Option ℤ) (path : List Branch) (act : Act)
+    → IsPlainlyRight p best seen path act → IsRight p best path act
+right_of_plainly p best seen path (Closed mult) right = right
+right_of_plainly p best seen path (Split var at mult) right = right.0

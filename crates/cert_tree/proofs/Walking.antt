@@ -3,13 +3,12 @@ use Rattle.std.proofs.Common.{◌≡◌, ℕ, ◌+◌, ◌<◌, List, [], ◌∷
 use Rattle.std.specs.Prelude.{ℤ, Option, Some}
 use Rattle.std.proofs.lemmas.List.{reverse-append, reverse-reverse, drop_more, get_or_default}
 use Rattle.lin_bound.specs.Problem.{ProblemData}
-use Rattle.lin_bound.specs.Box.{whole_box, half, box_at, IsPath}
+use Rattle.lin_bound.specs.Box.{whole_box, half, box_at, IsPath, lower, upper}
 use Rattle.lin_bound.specs.declared.region.Region.{Region}
 use Rattle.lin_bound.specs.declared.mult.Mult.{Mult}
 use Rattle.cert_tree.specs.declared.nodes.TreeNode.{TreeNode}
 use Rattle.cert_tree.specs.declared.nodes.TreeNode.TheVariants.{Leaf, Split, Open}
 use Rattle.cert_tree.specs.declared.possible.Place.{Place}
-use Rattle.cert_tree.specs.Records.{lower, upper}
 use Rattle.cert_tree.specs.Partial.{PartlyCertify, greatest_top, most_left}
 use Rattle.cert_tree.specs.Places.{mult_of, mult_at, IsNumber, halves_in, raised}
 use Rattle.cert_tree.proofs.Bounds.{boxes_of}

@@ -3,12 +3,11 @@ use Rattle.std.proofs.Common.{◌≡◌, ℕ, zero, suc, ◌*◌, ◌-◌, ◌�
 use Rattle.std.specs.Prelude.{ℤ, pos, negsuc, Option, None, Some}
 use Rattle.std.proofs.lemmas.Int.{ints}
 use Rattle.lin_bound.specs.Problem.{ProblemData}
-use Rattle.lin_bound.specs.Box.{whole_box, Splits}
+use Rattle.lin_bound.specs.Box.{whole_box, Splits, lower}
 use Rattle.lin_bound.specs.Bound.{Closes, plain}
 use Rattle.lin_bound.specs.declared.region.Region.{Region}
 use Rattle.cert_tree.specs.declared.nodes.TreeNode.{TreeNode}
 use Rattle.cert_tree.specs.declared.nodes.TreeNode.TheVariants.{Leaf, Split, Open}
-use Rattle.cert_tree.specs.Records.{lower}
 use Rattle.cert_tree.specs.Partial.{PlainlyOpen, PartlyCertify}
 use Rattle.cert_tree.specs.Counts.{points_below}
 

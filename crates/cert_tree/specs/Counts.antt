@@ -1,3 +1,4 @@
+-- Private: the law that a partial certificate has few nodes.
 -- How many nodes a tree can have.
 use Rattle.std.specs.Prelude.{ℕ, zero, suc, ◌+◌, ◌*◌, ◌-◌, ◌≤◌, List, [], ◌∷◌, length, ℤ, Option}
 use Rattle.lin_bound.specs.Sums.{nat_at}
@@ -11,7 +12,8 @@ abbrev pub points_below : List ℕ → ℕ → ℕ
 points_below upper zero = 1
 points_below upper (suc n) = points_below upper n * (nat_at upper n + 1)
 
--- A tree whose leaves are all boxes of the problem has fewer than twice as many nodes as there are points.
+-- A tree whose leaves are all boxes of the problem has fewer than twice as many nodes as there are
+-- points.
 abbrev pub NodesAreFew : Type 0
 NodesAreFew = (p : ProblemData) (best : Option ℤ) (nodes : List TreeNode)
     → IsLegal p → PartlyCertify p best (whole_box p ∷ []) nodes

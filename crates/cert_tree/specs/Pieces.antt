@@ -1,3 +1,4 @@
+-- Private: `assemble` in `src/assembly.rt`.
 -- The pieces of a tree on their way into it.
 use Rattle.std.specs.Prelude.{◌≡◌, ℕ, ◌+◌, ◌<◌, length, List, [], sum_by}
 use Rattle.std.specs.List.{HoldsAt}
@@ -41,6 +42,9 @@ weight_at weigh piece = weigh (path_of piece)
 abbrev pub weight_below : (List Branch → ℕ) → Piece → ℕ
 weight_below weigh piece = sum_by weigh (children_in piece)
 
--- However paths are weighed, the pieces weigh as much as the paths still to come and all children: balance, by weights.
+-- However paths are weighed, the pieces weigh as much as the paths still to come and all children:
+-- balance, by weights.
 abbrev pub Fits : List (List Branch) → List Piece → Type 0
-Fits paths pieces = (weigh : List Branch → ℕ) → sum_by (weight_at weigh) pieces ≡ sum_by weigh paths + sum_by (weight_below weigh) pieces
+Fits paths pieces =
+    (weigh : List Branch → ℕ)
+    → sum_by (weight_at weigh) pieces ≡ sum_by weigh paths + sum_by (weight_below weigh) pieces

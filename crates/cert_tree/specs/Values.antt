@@ -1,3 +1,4 @@
+-- Private: the proofs of the search: which of two values is the greater.
 -- Values of a search, where there may be none yet.
 use Rattle.std.specs.Prelude.{ℤ, ◌≤ℤ◌, Option, None, Some}
 

@@ -7,7 +7,7 @@ ghost use Rattle.cert_tree.specs.Pieces.{path_of, node_of, children_in, IsAt, Ha
 
 use crate::nodes::{Tree, TreeNode};
 use crate::records::{Act, Piece, Record};
-use lin_bound::{Branch, Path};
+use lin_bound::Path;
 use sqlite_items::Items;
 use std::alloc::{AllocError, Global};
 use std::cmp::Ordering;
@@ -54,7 +54,8 @@ fn place_of(pieces: &[Piece], path: &Path) -> usize
 /// The node of a piece. What it leaves to do goes onto the stack, the lower half on top.
 fn node_of(alloc: Global, piece: Piece, pending: &mut Vec<Path>) -> Result<TreeNode, AllocError>
     ensures node { IfOk result (λ node. node ≡ node_of piece) }
-    ensures pending { IfOk result (λ _. pending.new.items ≡ pending.old.items ++ reverse (children_in piece)) }
+    ensures pending { IfOk result (λ _. pending.new.items ≡
+        pending.old.items ++ reverse (children_in piece)) }
 {
     let Piece::Done(record) = piece else {
         return Ok(TreeNode::Open);
@@ -63,20 +64,9 @@ fn node_of(alloc: Global, piece: Piece, pending: &mut Vec<Path>) -> Result<TreeN
     match act {
         Act::Closed(mult) => Ok(TreeNode::Leaf(mult)),
         Act::Split { var, at, mult } => {
-            let (lower, upper) = (
-                Branch {
-                    var,
-                    at,
-                    high: false,
-                },
-                Branch {
-                    var,
-                    at,
-                    high: true,
-                },
-            );
-            pending.push(path.child(alloc, upper)?)?;
-            pending.push(path.child(alloc, lower)?)?;
+            let (lower, upper) = path.halves(alloc, var, at)?;
+            pending.push(upper)?;
+            pending.push(lower)?;
             Ok(TreeNode::Split { var, at, mult })
         }
     }

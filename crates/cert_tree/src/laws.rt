@@ -1,6 +1,6 @@
 //! What trees show, each proved for every problem.
 ghost use Rattle.cert_tree.specs.Counts.{NodesAreFew};
-ghost use Rattle.cert_tree.specs.Laws.{CertifiedIsBest, CertifiedIsEmpty, PartialBounds, AssembledCertifies, AssembledPartly, AssembledLegal};
+ghost use Rattle.cert_tree.specs.Laws.{CertifiedIsBest, CertifiedIsEmpty, PartialBounds, MostLeftIsGreatest, AssembledCertifies, AssembledPartly, AssembledLegal};
 
 use lin_bound::{closed_holds_none, halves_cover, weak_duality};
 
@@ -29,12 +29,18 @@ pub fn partial_bounds()
     weak_duality();
 }
 
+/// What a partial certificate leaves possible is the greatest of the value and the tops of its open leaves.
+pub fn most_left_is_greatest()
+    ensures { MostLeftIsGreatest }
+{}
+
 /// Where nothing is left and each record is right, the tree made of them is a certificate.
 pub fn assembled_certifies()
     ensures { AssembledCertifies }
 {}
 
-/// Where some path is left and each record is right, it is a partial certificate of as many nodes as there are records.
+/// If some path is left and each record is right, for whatever value was seen for it, the tree is a partial
+/// certificate of as many nodes as there are records.
 pub fn assembled_partly()
     ensures { AssembledPartly }
 {}

@@ -11,7 +11,7 @@ mod records;
 pub use assembly::assemble;
 pub use laws::{
     assembled_certifies, assembled_legal, assembled_partly, certified_is_best, certified_is_empty,
-    nodes_are_few, partial_bounds,
+    most_left_is_greatest, nodes_are_few, partial_bounds,
 };
 pub use nodes::{Tree, TreeNode};
 pub use possible::most_left;

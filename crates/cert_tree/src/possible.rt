@@ -1,5 +1,5 @@
 //! What a tree that is not done leaves possible.
-ghost use Rattle.std.specs.Prelude.{◌≡◌, ◌++◌, ◌∷◌, [], ◌<◌, IfOk, All, reverse, Some};
+ghost use Rattle.std.specs.Prelude.{◌≡◌, ◌++◌, ◌∷◌, [], ◌<◌, IfOk, All, reverse};
 ghost use Rattle.lin_bound.specs.Box.{whole_box, box_at, IsPath, IsRegion};
 ghost use Rattle.lin_bound.specs.Bound.{IsMult, bound_of, plain};
 ghost use Rattle.cert_tree.specs.Multipliers.{HasLegalMult};
@@ -7,7 +7,7 @@ ghost use Rattle.cert_tree.specs.Partial.{PartlyCertify, bound_by, bound_with, t
 ghost use Rattle.cert_tree.specs.Places.{mult_of, mult_at, IsNumber, halves_in, raised};
 
 use crate::nodes::{Tree, TreeNode};
-use lin_bound::{Branch, Mult, Path, Problem, Region, bound, box_of, plain_mult};
+use lin_bound::{Mult, Path, Problem, Region, bound, box_of, plain_mult};
 use std::alloc::{AllocError, Global};
 
 /// The least value that counts.
@@ -81,7 +81,8 @@ fn top(
     requires parent { IsNumber nodes.now place.now.parent }
     requires cost { cost.now ≡ plain problem.now 0 }
     requires mult { IsMult problem.now cost.now }
-    ensures { IfOk result (λ most. most ≡ top problem.now (box_at problem.now place.now.path) (mult_at nodes.now place.now.parent)) }
+    ensures { IfOk result (λ most. most ≡
+        top problem.now (box_at problem.now place.now.path) (mult_at nodes.now place.now.parent)) }
 {
     let _legal = problem.variables();
     let region = box_of(alloc, problem, &place.path)?;
@@ -112,16 +113,6 @@ fn raise(
     }
 }
 
-/// The place of a half.
-fn half_of(alloc: Global, path: &Path, branch: Branch, number: usize) -> Result<Place, AllocError>
-    ensures { IfOk result (λ place. place ≡ record { path = path.now ++ branch ∷ []; parent = Some number }) }
-{
-    Ok(Place {
-        path: path.child(alloc, branch)?,
-        parent: Some(number),
-    })
-}
-
 /// Puts the halves of a split onto the stack, the lower one on top.
 fn put_halves(
     alloc: Global,
@@ -130,24 +121,22 @@ fn put_halves(
     place: Place,
     pending: &mut Vec<Place>,
 ) -> Result<(), AllocError>
-    ensures { IfOk result (λ _. pending.new.items ≡ pending.old.items ++ reverse (halves_in number place node.now)) }
+    ensures { IfOk result (λ _. pending.new.items ≡
+        pending.old.items ++ reverse (halves_in number place node.now)) }
 {
     let TreeNode::Split { var, at, .. } = node else {
         return Ok(());
     };
-    let (var, at) = (*var, *at);
-    let lower = Branch {
-        var,
-        at,
-        high: false,
-    };
-    let upper = Branch {
-        var,
-        at,
-        high: true,
-    };
-    pending.push(half_of(alloc, &place.path, upper, number)?)?;
-    pending.push(half_of(alloc, &place.path, lower, number)?)?;
+    let (lower, upper) = place.path.halves(alloc, *var, *at)?;
+    let parent = Some(number);
+    pending.push(Place {
+        path: upper,
+        parent,
+    })?;
+    pending.push(Place {
+        path: lower,
+        parent,
+    })?;
     Ok(())
 }
 

@@ -1,5 +1,6 @@
 -- What a parser says of the whole of the tokens, in words that a public contract can cite.
-use Rattle.std.specs.Prelude.{◌≡◌, ℕ, suc, ◌-◌, ◌<◌, ◌≤◌, Bool, true, List, length, take, slice_get, Some, Result, Ok, Err}
+use Rattle.std.specs.Prelude.{◌≡◌, ℕ, suc, ◌-◌, ◌<◌, ◌≤◌, Bool, true, List, length, take, slice_get}
+use Rattle.std.specs.Prelude.{Some, Result, Ok, Err}
 use Rattle.formal_grammar.specs.declared.stop.Why.{Why}
 use Rattle.formal_grammar.specs.declared.stop.Why.TheVariants.{Syntax, Deep}
 use Rattle.formal_grammar.specs.Exact.{Langs}
@@ -11,15 +12,17 @@ pub record Agrees {T A : Type 0} (L : Langs T A) (m k : ℕ) (s : List T) : Type
   pub spells : L m text value
   pub same : take k text ≡ take k s
 
--- The tokens before `at` begin a text. With the token at `at`, or with the end there, they begin none, whatever the depth.
+-- The tokens before `at` begin a text. With the token at `at`, or with the end there, they begin
+-- none, whatever the depth.
 pub record IsSyntaxFault {T A : Type 0} (L : Langs T A) (n : ℕ) (s : List T) (at : ℕ) : Type 0 where
   pub within : at ≤ length s
   pub before : Agrees L n at s
   pub after : (m : ℕ) → Agrees L m (suc at) s → ⊥
 
--- The tokens before `at` begin a text of depth n. With the token at `at`, one of those that open a level, they
--- begin one of more depth, and none of depth n.
-pub record IsDeepFault {T A : Type 0} (opens : T → Bool) (L : Langs T A) (n : ℕ) (s : List T) (at : ℕ) : Type 0 where
+-- The tokens before `at` begin a text of depth n. With the token at `at`, one of those that open a
+-- level, they begin one of more depth, and none of depth n.
+pub record IsDeepFault {T A : Type 0} (opens : T → Bool) (L : Langs T A) (n : ℕ) (s : List T)
+    (at : ℕ) : Type 0 where
   pub within : at < length s
   pub token : T
   pub there : slice_get s at ≡ Some token
@@ -40,6 +43,7 @@ IsFault Syntax opens L n s at = IsSyntaxFault L n s at
 IsFault Deep opens L n s at = IsDeepFault opens L n s at
 
 -- The answer on all of the tokens: the one value, or the fault, before so many tokens from the end.
-abbrev pub Judges : {T A : Type 0} → (T → Bool) → Langs T A → ℕ → List T → Result A (Why × ℕ) → Type 0
+abbrev pub Judges : {T A : Type 0} → (T → Bool) → Langs T A → ℕ → List T → Result A (Why × ℕ)
+    → Type 0
 Judges opens L n s (Ok a) = IsOnly L n s a
 Judges opens L n s (Err e) = IsFault e.0 opens L n s (length s - e.1) × (e.1 ≤ length s)

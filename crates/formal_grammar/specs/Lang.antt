@@ -1,4 +1,5 @@
--- Grammars as languages: which tokens spell which value. A line of a grammar is a `do` block of these words.
+-- Grammars as languages: which tokens spell which value. A line of a grammar is a `do` block of
+-- these words.
 use Rattle.std.specs.Prelude.{◌≡◌, Bool, true, List, [], ◌∷◌, ◌++◌, Option, Some, None, ◌⊎◌}
 
 -- The lists of tokens that spell a value.
@@ -6,7 +7,8 @@ abbrev pub Lang : Type 0 → Type 0 → Type 1
 Lang T A = List T → A → Type 0
 
 -- One text, and behind it another, whose language may depend on the value of the first.
-pub record Then {T A B : Type 0} (p : Lang T A) (q : A → Lang T B) (w : List T) (b : B) : Type 0 where
+pub record Then {T A B : Type 0} (p : Lang T A) (q : A → Lang T B) (w : List T)
+    (b : B) : Type 0 where
   pub front : List T
   pub back : List T
   pub value : A

@@ -1,5 +1,7 @@
--- Parsers as functions on lists: the reading that the code of a parser follows, in the words of the grammar.
-use Rattle.std.specs.Prelude.{◌≡◌, ℕ, zero, suc, Bool, false, List, [], ◌∷◌, length, Option, Some, None, Result, Ok, Err, if◌then◌else◌}
+-- Parsers as functions on lists: the reading that the code of a parser follows, in the words of the
+-- grammar.
+use Rattle.std.specs.Prelude.{◌≡◌, ℕ, zero, suc, Bool, false, List, [], ◌∷◌, length, Option, Some}
+use Rattle.std.specs.Prelude.{None, Result, Ok, Err, if◌then◌else◌}
 use Rattle.formal_grammar.specs.declared.stop.Why.{Why}
 use Rattle.formal_grammar.specs.declared.stop.Why.TheVariants.{Syntax}
 use Rattle.formal_grammar.specs.declared.stop.ReadError.{ReadError}
@@ -67,7 +69,8 @@ abbrev pub when : {T A : Type 0} → (T → Bool) → Parser T A → Parser T A 
 when f p q s = if sees f s then p s else q s
 
 -- The second token decides, behind a first one that passes the test.
-abbrev pub when_two : {T A : Type 0} → (T → Bool) → (T → Bool) → Parser T A → Parser T A → Parser T A
+abbrev pub when_two : {T A : Type 0} → (T → Bool) → (T → Bool) → Parser T A → Parser T A
+    → Parser T A
 when_two g h p q s = if sees g s then (if sees h (rest_of s) then p s else q s) else q s
 
 -- A part that stands where such a token stands first.
@@ -77,7 +80,9 @@ maybe f p = when f (p >>= λ a. pure (Some a)) (pure None)
 -- As many parts as stand there, and k at most.
 abbrev pub turns : {T A : Type 0} → (T → Bool) → Parser T A → ℕ → Parser T (List A)
 turns f p zero s = Ok ([], s)
-turns f p (suc k) s = if sees f s then and_then (p s) (λ a u. and_then (turns f p k u) (λ later. pure (a ∷ later))) else Ok ([], s)
+turns f p (suc k) s =
+    if sees f s then and_then (p s) (λ a u. and_then (turns f p k u) (λ later. pure (a ∷ later)))
+    else Ok ([], s)
 
 -- As many parts as stand there: each takes a token, so there are no more than tokens.
 abbrev pub repeat : {T A : Type 0} → (T → Bool) → Parser T A → Parser T (List A)

@@ -1,3 +1,4 @@
+-- Private: the sample in `src/sample.rt`.
 -- The sample's grammar: which tokens spell which sum.
 use Rattle.std.specs.Prelude.{ℕ, zero, suc, Bool, true, false, Option, Some, None, is_some}
 use Rattle.formal_grammar.specs.declared.sample.Sign.TheVariants.{Open, Close, Plus, Bang}

@@ -1,3 +1,4 @@
+-- Private: the sample in `src/sample.rt`.
 -- The reading of each function of the sample's parser, line by line as the grammar stands.
 use Rattle.std.specs.Prelude.{ℕ, zero, suc, Bool, false, is_some}
 use denote.Enum.Bare.{sameb}
@@ -9,7 +10,8 @@ use Rattle.formal_grammar.specs.declared.sample.Token.{Token}
 use Rattle.formal_grammar.specs.declared.sample.Token.TheVariants as token
 use Rattle.formal_grammar.specs.declared.sample.Expr.{Expr}
 use Rattle.formal_grammar.specs.declared.sample.Expr.TheVariants as expr
-use Rattle.formal_grammar.specs.Parse.{Parser, ◌>>=◌, ◌>>◌, pure, stop, accept, this, when, maybe, separated}
+use Rattle.formal_grammar.specs.Parse.{Parser, ◌>>=◌, ◌>>◌, pure, stop, accept, this, when, maybe}
+use Rattle.formal_grammar.specs.Parse.{separated}
 use Rattle.formal_grammar.specs.SampleGrammar.{number_of}
 
 -- The token is this sign.

@@ -1,4 +1,5 @@
-//! The laws of the theory, for any type of tokens and values. Each has an empty body: its clause is the law.
+//! The laws of the theory, for any type of tokens and values. Each has an empty body: its clause is
+//! the law.
 ghost use Rattle.formal_grammar.specs.Laws.{OneValue, JudgesWhole, ReadsAll, Composes};
 
 /// No text of a language that has exact parsers is ambiguous.

@@ -39,7 +39,8 @@ pub enum Expr {
     Sum(Items<Expr>, bool),
 }
 
-/// Why tokens are refused. The number is a place among them, or their count where the end is refused.
+/// Why tokens are refused. The number is a place among them, or their count where the end is
+/// refused.
 #[derive(Clone, Copy, Debug, PartialEq, Eq)]
 pub enum ParseFault {
     Memory,
@@ -57,10 +58,12 @@ pub fn parse(alloc: Global, tokens: &[Token]) -> Result<Expr, ParseFault>
     // What is spelled is found, unless memory runs out.
     ensures complete { (t : _) → grammar.sum 4 tokens.now t
         → MatchResult result (λ u. u ≡ t) (λ e. e ≡ ParseFault.Memory) }
-    // The tokens before this place begin a sum, and with the token there they begin none, however deep.
+    // The tokens before this place begin a sum, and with the token there they begin none, however
+    // deep.
     ensures syntax { (at : ℕ) → result ≡ Err (ParseFault.Syntax at)
         → IsSyntaxFault (λ m. grammar.sum m) 4 tokens.now at }
-    // A bracket opens at this place, and with it the tokens begin only sums with more open than are allowed.
+    // A bracket opens at this place, and with it the tokens begin only sums with more open than are
+    // allowed.
     ensures deep { (at : ℕ) → result ≡ Err (ParseFault.Deep at)
         → IsDeepFault grammar.opens (λ m. grammar.sum m) 4 tokens.now at }
 {

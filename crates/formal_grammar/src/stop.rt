@@ -18,8 +18,8 @@ pub enum Why {
 pub enum ReadError {
     /// Memory ran out.
     Memory,
-    /// The tokens are refused. The number is how many are left, the refused one included, so that an
-    /// error passes from a part to the whole unchanged.
+    /// The tokens are refused. The number is how many are left, the refused one included, so that
+    /// an error passes from a part to the whole unchanged.
     Stopped(Why, usize),
 }
 

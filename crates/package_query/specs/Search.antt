@@ -1,5 +1,6 @@
+-- Private: the search of the plain program in `src/search.rt`.
 -- What the plain search has found, and what is left for it to try.
-use Rattle.std.specs.Prelude.{◌≡◌, ℕ, ◌==◌, List, [], ◌∷◌, ◌++◌, ℤ, ◌≤ℤ◌, Option, None, Some, ◌⊎◌, if◌then◌else◌}
+use Rattle.std.specs.Prelude.{◌≡◌, ℕ, ◌==◌, List, [], ◌∷◌, ◌++◌, ℤ, ◌≤ℤ◌, ◌<ℤ◌, Option, None, Some, ◌⊎◌, if◌then◌else◌}
 use Rattle.package_query.specs.Query.{PackageQuery}
 use Rattle.package_query.specs.Meaning.{Meets, worth}
 use Rattle.package_query.specs.declared.plain.PlainBest.{PlainBest}
@@ -41,4 +42,4 @@ abbrev pub IsBetterOf : Option PlainBest → PlainBest → PlainBest → Type 0
 IsBetterOf None candidate better = better ≡ candidate
 IsBetterOf (Some best) candidate better =
     ((better ≡ best) × (candidate.worth ≤ℤ best.worth))
-    ⊎ ((better ≡ candidate) × (best.worth ≤ℤ candidate.worth))
+    ⊎ ((better ≡ candidate) × (best.worth <ℤ candidate.worth))

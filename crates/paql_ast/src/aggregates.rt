@@ -1,20 +1,21 @@
 //! The trees of aggregates, and of the sums that they stand in.
 
-use crate::predicates::{ColumnName, Pred};
+use crate::conditions::{ColumnName, Pred};
 use pq_base::Scaled;
 use schema_types::Text;
 
 /// What is summed over the copies of a package.
 #[derive(Debug, Drop)]
 pub enum Plain {
-    /// `COUNT(name.*)`. The count of the query's own package has no name here, however it is spelled.
+    /// `COUNT(name.*)`. The count of the query's own package has no name here, however it is
+    /// spelled.
     Count(Option<Text>),
     /// `SUM(column)`
     Sum(ColumnName),
 }
 
-/// An aggregate, with `only` over the copies that meet a predicate: `(SELECT plain FROM name WHERE pred)`.
-/// The name behind FROM is kept as it is written.
+/// An aggregate, with `only` over the copies that meet a condition: `(SELECT plain FROM name WHERE
+/// pred)`. The name behind FROM is kept as it is written.
 #[derive(Drop)]
 pub struct Agg {
     pub plain: Plain,

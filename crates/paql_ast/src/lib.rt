@@ -2,6 +2,6 @@
 #![tactic(auto)]
 
 pub mod aggregates;
-pub mod predicates;
+pub mod conditions;
 pub mod queries;
 pub mod statements;

@@ -1,12 +1,13 @@
 //! The trees of package queries.
 
 use crate::aggregates::SumItem;
-use crate::predicates::{CmpOp, ColumnName, Pred};
+use crate::conditions::{CmpOp, ColumnName, Pred};
 use pq_base::Scaled;
 use schema_types::Text;
 use sqlite_items::Items;
 
-/// A condition of SUCH THAT. Sums have at least one item, and no `op` is Ne: the grammar makes no others.
+/// A constraint of SUCH THAT. Sums have at least one item, and no `op` is Ne: the grammar makes no
+/// others.
 #[derive(Drop)]
 pub enum Conjunct {
     /// `left op right`
@@ -35,7 +36,8 @@ pub enum Conjunct {
     },
 }
 
-/// MAXIMIZE or MINIMIZE. There is at least one part, and no part is a Number: the grammar makes no others.
+/// MAXIMIZE or MINIMIZE. There is at least one part, and no part is a Number: the grammar makes no
+/// others.
 #[derive(Drop)]
 pub struct Goal {
     pub maximize: bool,

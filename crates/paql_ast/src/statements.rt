@@ -1,6 +1,6 @@
 //! The trees of statements.
 
-use crate::predicates::Pred;
+use crate::conditions::Pred;
 use crate::queries::Query;
 use pq_base::Scaled;
 use schema_types::{Column, Lit, Text};

@@ -1,10 +1,10 @@
--- The laws of aggregates, sums, conditions and goals: each reading is exact for its line.
+-- The laws of aggregates, sums, constraints and goals: each reading is exact for its line.
 use Rattle.std.proofs.Common.{◌≡◌, subst, ℕ, Bool, true, false, List, [], ◌∷◌, ◌++◌, Option, Some, None, refl, sym, ap, ◌∙◌, inl, inr, is_some, append_assoc, append-nil}
 use Rattle.pq_base.specs.declared.scaled.Scaled.{Scaled}
 use Rattle.paql_lexer.specs.declared.vocabulary.Kind.{Kind}
 use Rattle.paql_lexer.specs.declared.vocabulary.Kind.TheVariants as kinds
-use Rattle.paql_ast.specs.declared.predicates.Pred.{Pred}
-use Rattle.paql_ast.specs.declared.predicates.ColumnName.{ColumnName}
+use Rattle.paql_ast.specs.declared.conditions.Pred.{Pred}
+use Rattle.paql_ast.specs.declared.conditions.ColumnName.{ColumnName}
 use Rattle.paql_ast.specs.declared.aggregates.Plain.{Plain}
 use Rattle.paql_ast.specs.declared.aggregates.Plain.TheVariants.{Count, Sum}
 use Rattle.paql_ast.specs.declared.aggregates.Agg.{Agg}
@@ -30,7 +30,7 @@ use Rattle.paql_grammar.specs.Aggregates.{counted, sign_kinds, goal_kinds}
 use Rattle.paql_grammar.specs.AggregateReading as read
 use Rattle.paql_grammar.proofs.KindSets.{subset, of_is, of_among, apart_word, apart_kinds, within_word, within_kinds, starts_word}
 use Rattle.paql_grammar.proofs.LexemeRules.{word_rule, name_rule, number_rule, name_kinds, starts_name, starts_number}
-use Rattle.paql_grammar.proofs.PredicateRules.{comparison_rule, signed_rule, column_rule, comparison_kinds, starts_comparison}
+use Rattle.paql_grammar.proofs.ConditionRules.{comparison_rule, signed_rule, column_rule, comparison_kinds, starts_comparison}
 use Rattle.paql_grammar.proofs.Firsts.{starts_behind, joins_behind, starts_skip}
 
 -- ---- aggregates
@@ -84,7 +84,7 @@ unconditional_rule : (package_name : List ℕ) (n : ℕ) → IsRule opens (λ m.
 unfolding read.unconditional
 unconditional_rule package_name n = rule_seq (plain_rule package_name n) (λ of. rule_gives (record { plain = of; only = None }) none n)
 
--- an aggregate over the copies that meet a predicate
+-- an aggregate over the copies that meet a condition
 abbrev only : Plain → List ℕ → Pred → Agg
 only of from filter = record { plain = of; only = Some (from, filter) }
 
@@ -338,7 +338,7 @@ starts_sum {L = L} starts =
           whole = t.whole ∙ ap (λ (z : List Lexeme). z ++ t.back) (u.whole ∙ ap (λ (z : List Lexeme). u.front ++ z) u.second.0 ∙ append-nil u.front);
         }
 
--- ---- conditions and goals
+-- ---- constraints and goals
 
 -- the kinds that would go on with a sum of terms
 abbrev pub sum_ends : List Kind

@@ -11,7 +11,7 @@ use Rattle.formal_grammar.proofs.Contexts.{not_none}
 use Rattle.formal_grammar.proofs.Joins.{starts_shown}
 use Rattle.paql_grammar.specs.Numerals.{scaled}
 use Rattle.paql_grammar.specs.Lexemes.{Lexeme, is, among, opens, inside, name_of, content_of, number_of, whole_of, word, name, content, number, whole}
-pub use Rattle.paql_grammar.specs.PredicateReading.{name_kinds}
+pub use Rattle.paql_grammar.specs.ConditionReading.{name_kinds}
 use Rattle.paql_grammar.proofs.KindSets.{sample, passes}
 
 -- ---- rules

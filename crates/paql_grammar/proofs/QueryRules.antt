@@ -2,7 +2,7 @@
 use Rattle.std.proofs.Common.{◌≡◌, ℕ, Bool, true, false, List, [], ◌∷◌, Option, refl}
 use Rattle.paql_lexer.specs.declared.vocabulary.Kind.{Kind}
 use Rattle.paql_lexer.specs.declared.vocabulary.Kind.TheVariants as kinds
-use Rattle.paql_ast.specs.declared.predicates.Pred.{Pred}
+use Rattle.paql_ast.specs.declared.conditions.Pred.{Pred}
 use Rattle.paql_ast.specs.declared.queries.Conjunct.{Conjunct}
 use Rattle.paql_ast.specs.declared.queries.Goal.{Goal}
 use Rattle.paql_ast.specs.declared.queries.Method.{Method}
@@ -22,15 +22,15 @@ use Rattle.paql_grammar.specs.Lexemes.{Lexeme, is, among, opens, word}
 use Rattle.paql_grammar.specs.Aggregates as aggregates
 use Rattle.paql_grammar.specs.AggregateReading as read_aggregates
 use Rattle.paql_grammar.specs.Query as grammar
-use Rattle.paql_grammar.specs.Query.{Head, Relation, Conditions, Ending, alias_kinds, query_of}
+use Rattle.paql_grammar.specs.Query.{Head, Relation, Constraints, Ending, alias_kinds, query_of}
 use Rattle.paql_grammar.specs.Aggregates.{sign_kinds, goal_kinds}
 use Rattle.paql_grammar.specs.QueryReading as read
 use Rattle.paql_grammar.proofs.KindSets.{OfKind, disjoint, of_is, of_among, apart_word, apart_kinds, within_word, within_kinds, sample}
 use Rattle.paql_grammar.proofs.LexemeRules.{word_rule, name_rule, whole_rule, name_kinds, starts_name}
 use Rattle.paql_grammar.proofs.Firsts.{starts_behind, joins_behind, starts_skip}
-use Rattle.paql_grammar.specs.Predicates.{pred}
-use Rattle.paql_grammar.specs.PredicateReading as predicates
-use Rattle.paql_grammar.proofs.PredicateRules.{or_on, pred_rule}
+use Rattle.paql_grammar.specs.Conditions.{pred}
+use Rattle.paql_grammar.specs.ConditionReading as conditions
+use Rattle.paql_grammar.proofs.ConditionRules.{or_on, pred_rule}
 use Rattle.paql_grammar.proofs.AggregateRules.{agg_rule, starts_agg, part_rule, starts_part, term_rule, starts_term, sum_rule, starts_sum, conj_rule, goal_rule, starts_goal, sum_ends, sum_ext, next_item_shrinks}
 
 -- ---- "SELECT" "PACKAGE" "(" name ")" [ "AS" ] name
@@ -81,8 +81,8 @@ relation_ext = among relation_ends
 abbrev relation_of : List ℕ → Option (List ℕ) → Option ℕ → Option ℕ → Relation
 relation_of table alias at_version repeat = record { table = table; alias = alias; version = at_version; repeat = repeat }
 
-abbrev conditions_of : Option Pred → List Conjunct → Conditions
-conditions_of passes conjuncts = record { filter = passes; conjuncts = conjuncts }
+abbrev constraints_of : Option Pred → List Conjunct → Constraints
+constraints_of passes conjuncts = record { filter = passes; conjuncts = conjuncts }
 
 abbrev ending_of : Option Goal → Option Method → Option ℕ → Ending
 ending_of best solved_by nodes = record { goal = best; method = solved_by; budget = nodes }
@@ -128,15 +128,15 @@ relation_rule n =
 
 -- ---- [ "WHERE" pred ] [ "SUCH" "THAT" conj { "AND" conj } ]
 
--- what would go on with WHERE, and with all conditions
+-- what would go on with WHERE, and with all constraints
 abbrev filter_ends : List Kind
 filter_ends = kinds.Where ∷ or_on
 
-abbrev condition_ends : List Kind
-condition_ends = kinds.Where ∷ kinds.Or ∷ kinds.And ∷ kinds.Dot ∷ kinds.Such ∷ sum_ends
+abbrev constraint_ends : List Kind
+constraint_ends = kinds.Where ∷ kinds.Or ∷ kinds.And ∷ kinds.Dot ∷ kinds.Such ∷ sum_ends
 
-abbrev condition_ext : Lexeme → Bool
-condition_ext = among condition_ends
+abbrev constraint_ext : Lexeme → Bool
+constraint_ext = among constraint_ends
 
 -- "WHERE" pred
 filter_rule : {L : Langs Lexeme Pred} {P : Parser Lexeme Pred} {ext : Lexeme → Bool} {n : ℕ} → IsRule opens L P ext n → IsRule opens (λ m. grammar.filter (L m)) (read.filter P) ext n
@@ -144,39 +144,39 @@ unfolding read.filter
 filter_rule {L = L} {n = n} x = rule_seq {q = λ _. L} (word_rule kinds.Where n) (λ _. x)
 
 -- "SUCH" "THAT" conj { "AND" conj }
-such_that_rule : {L : Langs Lexeme Conjunct} {P : Parser Lexeme Conjunct} {n : ℕ} → IsRule opens L P sum_ext n → IsRule opens (λ m. grammar.such_that (L m)) (read.such_that P) condition_ext n
+such_that_rule : {L : Langs Lexeme Conjunct} {P : Parser Lexeme Conjunct} {n : ℕ} → IsRule opens L P sum_ext n → IsRule opens (λ m. grammar.such_that (L m)) (read.such_that P) constraint_ext n
 unfolding read.such_that
 such_that_rule {L = L} {n = n} x =
     rule_seq {q = λ _ m. word kinds.That >> listed (word kinds.And) (L m)} (word_rule kinds.Such n) (λ _.
     rule_seq {q = λ _ m. listed (word kinds.And) (L m)} (word_rule kinds.That n) (λ _.
-    rule_listed (is kinds.And) condition_ext starts_one_of (apart_word kinds.And (of_among sum_ends) refl) (within_word kinds.And (of_among condition_ends) refl) (within_kinds sum_ends condition_ends refl) (word_rule kinds.And n) x))
+    rule_listed (is kinds.And) constraint_ext starts_one_of (apart_word kinds.And (of_among sum_ends) refl) (within_word kinds.And (of_among constraint_ends) refl) (within_kinds sum_ends constraint_ends refl) (word_rule kinds.And n) x))
 
--- A condition behind AND takes a token.
-pub next_condition_shrinks : {L : Langs Lexeme Conjunct} {P : Parser Lexeme Conjunct} {n : ℕ} → IsRule opens L P sum_ext n → Shrinks (read.next_condition P)
-next_condition_shrinks {L = L} {n = n} x = shrinks (starts_behind kinds.And {q = L}) (rule_seq {q = λ _. L} (word_rule kinds.And n) (λ _. x))
+-- A constraint behind AND takes a token.
+pub next_constraint_shrinks : {L : Langs Lexeme Conjunct} {P : Parser Lexeme Conjunct} {n : ℕ} → IsRule opens L P sum_ext n → Shrinks (read.next_constraint P)
+next_constraint_shrinks {L = L} {n = n} x = shrinks (starts_behind kinds.And {q = L}) (rule_seq {q = λ _. L} (word_rule kinds.And n) (λ _. x))
 
--- the conditions of SUCH THAT, or none
+-- the constraints of SUCH THAT, or none
 abbrev conjuncts_of : Lang Lexeme Conjunct → Lang Lexeme (List Conjunct)
 conjuncts_of conj = grammar.such_that conj or gives []
 
 -- these may stand behind a set of tokens
-joins_conjuncts : {L : Langs Lexeme Conjunct} {before ext : Lexeme → Bool} → OfKind before → before (sample kinds.Such) ≡ false → Within before ext → (passes : Option Pred) → Joins before (λ m. conjuncts_of (L m) >>= λ conjuncts. gives (conditions_of passes conjuncts)) ext
+joins_conjuncts : {L : Langs Lexeme Conjunct} {before ext : Lexeme → Bool} → OfKind before → before (sample kinds.Such) ≡ false → Within before ext → (passes : Option Pred) → Joins before (λ m. conjuncts_of (L m) >>= λ conjuncts. gives (constraints_of passes conjuncts)) ext
 joins_conjuncts {L = L} {before = before} {ext = ext} of no_such within passes =
     joins_then {between = ext} {p = λ m. conjuncts_of (L m)}
     (joins_or {p = λ m. grammar.such_that (L m)} (joins_behind kinds.Such of no_such) (joins_gives before [] ext within))
-    (λ conjuncts. joins_gives ext (conditions_of passes conjuncts) ext (within_same ext))
+    (λ conjuncts. joins_gives ext (constraints_of passes conjuncts) ext (within_same ext))
 
--- all conditions
-conditions_rule : {Lp : Langs Lexeme Pred} {Pp : Parser Lexeme Pred} {Lc : Langs Lexeme Conjunct} {Pc : Parser Lexeme Conjunct} {n : ℕ} → IsRule opens Lp Pp (among or_on) n → IsRule opens Lc Pc sum_ext n → IsRule opens (λ m. grammar.conditions (Lp m) (Lc m)) (read.conditions Pp Pc) condition_ext n
-unfolding read.conditions
-conditions_rule {Lp = Lp} {Lc = Lc} {n = n} x y =
-    rule_then {q = λ passes m. conjuncts_of (Lc m) >>= λ conjuncts. gives (conditions_of passes conjuncts)}
-    (λ passes. joins_conjuncts (of_among filter_ends) refl (within_kinds filter_ends condition_ends refl) passes)
+-- all constraints
+constraints_rule : {Lp : Langs Lexeme Pred} {Pp : Parser Lexeme Pred} {Lc : Langs Lexeme Conjunct} {Pc : Parser Lexeme Conjunct} {n : ℕ} → IsRule opens Lp Pp (among or_on) n → IsRule opens Lc Pc sum_ext n → IsRule opens (λ m. grammar.constraints (Lp m) (Lc m)) (read.constraints Pp Pc) constraint_ext n
+unfolding read.constraints
+constraints_rule {Lp = Lp} {Lc = Lc} {n = n} x y =
+    rule_then {q = λ passes m. conjuncts_of (Lc m) >>= λ conjuncts. gives (constraints_of passes conjuncts)}
+    (λ passes. joins_conjuncts (of_among filter_ends) refl (within_kinds filter_ends constraint_ends refl) passes)
     (rule_optional (is kinds.Where) (among filter_ends) (starts_behind kinds.Where {q = Lp}) (within_word kinds.Where (of_among filter_ends) refl) (within_kinds or_on filter_ends refl) (filter_rule x))
-    (λ passes. rule_then {q = λ conjuncts m. gives (conditions_of passes conjuncts)}
-    (λ conjuncts. joins_gives condition_ext (conditions_of passes conjuncts) condition_ext (within_same condition_ext))
-    (rule_when {p = λ m. grammar.such_that (Lc m)} {q = λ m. gives []} (is kinds.Such) (starts_behind kinds.Such) (joins_gives (is kinds.Such) [] condition_ext (within_word kinds.Such (of_among condition_ends) refl)) (such_that_rule y) (rule_gives [] condition_ext n))
-    (λ conjuncts. rule_gives (conditions_of passes conjuncts) condition_ext n))
+    (λ passes. rule_then {q = λ conjuncts m. gives (constraints_of passes conjuncts)}
+    (λ conjuncts. joins_gives constraint_ext (constraints_of passes conjuncts) constraint_ext (within_same constraint_ext))
+    (rule_when {p = λ m. grammar.such_that (Lc m)} {q = λ m. gives []} (is kinds.Such) (starts_behind kinds.Such) (joins_gives (is kinds.Such) [] constraint_ext (within_word kinds.Such (of_among constraint_ends) refl)) (such_that_rule y) (rule_gives [] constraint_ext n))
+    (λ conjuncts. rule_gives (constraints_of passes conjuncts) constraint_ext n))
 
 -- ---- [ ( "MINIMIZE" | "MAXIMIZE" ) goal ] [ "USING" ( "DIRECT" | "SKETCHREFINE" ) ] [ "BUDGET" whole ]
 
@@ -242,9 +242,9 @@ joins_ending {L = L} of no_goal no_using no_budget starts =
 
 -- ---- the whole line
 
--- a condition of SUCH THAT
-pub condition_rule : {L : Langs Lexeme Pred} {P : Parser Lexeme Pred} {n : ℕ} (package_name : List ℕ) → IsRule opens L P (among or_on) n → IsRule opens (λ m. aggregates.condition package_name (L m)) (read_aggregates.condition package_name P) sum_ext n
-condition_rule {L = L} package_name x =
+-- a constraint of SUCH THAT
+pub constraint_rule : {L : Langs Lexeme Pred} {P : Parser Lexeme Pred} {n : ℕ} (package_name : List ℕ) → IsRule opens L P (among or_on) n → IsRule opens (λ m. aggregates.constraint package_name (L m)) (read_aggregates.constraint package_name P) sum_ext n
+constraint_rule {L = L} package_name x =
     let starts = starts_agg package_name L in
     conj_rule (starts_sum (starts_term starts)) (sum_rule (starts_term starts) (apart_kinds sign_kinds (of_is kinds.Star) refl) (term_rule starts (agg_rule package_name (apart_word kinds.RightParen (of_among or_on) refl) x)))
 
@@ -259,50 +259,50 @@ objective_rule {L = L} package_name x =
     goal_rule (sum_rule (starts_part starts) (λ t e. refl) (part_rule starts (agg_rule package_name (apart_word kinds.RightParen (of_among or_on) refl) x)))
 
 module _ (L : Langs Lexeme Pred) where
-  -- what stands behind the conditions
-  abbrev after_conditions : Head → Relation → Conditions → Langs Lexeme Query
-  after_conditions first from such m = grammar.ending (aggregates.objective first.package_name (L m)) >>= λ last. gives (query_of first from such last)
+  -- what stands behind the constraints
+  abbrev after_constraints : Head → Relation → Constraints → Langs Lexeme Query
+  after_constraints first from such m = grammar.ending (aggregates.objective first.package_name (L m)) >>= λ last. gives (query_of first from such last)
 
   -- what stands behind the relation
   abbrev after_relation : Head → Relation → Langs Lexeme Query
-  after_relation first from m = grammar.conditions (L m) (aggregates.condition first.package_name (L m)) >>= λ such. after_conditions first from such m
+  after_relation first from m = grammar.constraints (L m) (aggregates.constraint first.package_name (L m)) >>= λ such. after_constraints first from such m
 
   -- what stands behind the package
   abbrev after_head : Head → Langs Lexeme Query
   after_head first m = grammar.relation >>= λ from. after_relation first from m
 
   -- the end may follow what has none of its words
-  joins_last : {before : Lexeme → Bool} → OfKind before → disjoint (kinds.Minimize ∷ kinds.Maximize ∷ []) before ≡ true → before (sample kinds.Using) ≡ false → before (sample kinds.Budget) ≡ false → (first : Head) (from : Relation) (such : Conditions) → Joins before (after_conditions first from such) any
+  joins_last : {before : Lexeme → Bool} → OfKind before → disjoint (kinds.Minimize ∷ kinds.Maximize ∷ []) before ≡ true → before (sample kinds.Using) ≡ false → before (sample kinds.Budget) ≡ false → (first : Head) (from : Relation) (such : Constraints) → Joins before (after_constraints first from such) any
   joins_last of no_goal no_using no_budget first from such =
       joins_then {between = any} {p = λ m. grammar.ending (aggregates.objective first.package_name (L m))}
       (joins_ending of no_goal no_using no_budget (starts_objective first.package_name L))
       (λ last. joins_gives any (query_of first from such last) any (within_same any))
 
-  -- the conditions and the end may follow a relation
-  joins_conditions : (first : Head) (from : Relation) → Joins relation_ext (after_relation first from) any
-  joins_conditions first from =
-      joins_then {between = relation_ext} {p = λ m. grammar.conditions (L m) (aggregates.condition first.package_name (L m))}
-      (joins_skip {p = λ m. grammar.filter (L m)} {q = λ passes m. conjuncts_of (aggregates.condition first.package_name (L m)) >>= λ conjuncts. gives (conditions_of passes conjuncts)}
+  -- the constraints and the end may follow a relation
+  joins_constraints : (first : Head) (from : Relation) → Joins relation_ext (after_relation first from) any
+  joins_constraints first from =
+      joins_then {between = relation_ext} {p = λ m. grammar.constraints (L m) (aggregates.constraint first.package_name (L m))}
+      (joins_skip {p = λ m. grammar.filter (L m)} {q = λ passes m. conjuncts_of (aggregates.constraint first.package_name (L m)) >>= λ conjuncts. gives (constraints_of passes conjuncts)}
       (apart_word kinds.Where (of_among relation_ends) refl) (starts_behind kinds.Where {q = L})
       (λ passes. joins_conjuncts (of_among relation_ends) refl (within_same relation_ext) passes))
       (λ such. joins_last (of_among relation_ends) refl refl refl first from such)
 
--- The reading of a query is exact, where that of predicates is.
+-- The reading of a query is exact, where that of conditions is.
 pub query_rule : {L : Langs Lexeme Pred} {P : Parser Lexeme Pred} {n : ℕ} → IsRule opens L P (among or_on) n → IsRule opens (λ m. grammar.query (L m)) (read.query P) any n
 unfolding read.query
 query_rule {L = L} {n = n} x =
     rule_seq {q = after_head L} (head_rule n) (λ first.
-    rule_then {q = after_relation L first} (joins_conditions L first) (relation_rule n) (λ from.
-    rule_then {q = after_conditions L first from} (joins_last L (of_among condition_ends) refl refl refl first from) (conditions_rule x (condition_rule first.package_name x)) (λ such.
+    rule_then {q = after_relation L first} (joins_constraints L first) (relation_rule n) (λ from.
+    rule_then {q = after_constraints L first from} (joins_last L (of_among constraint_ends) refl refl refl first from) (constraints_rule x (constraint_rule first.package_name x)) (λ such.
     rule_then {q = λ last m. gives (query_of first from such last)} (λ last. joins_gives any (query_of first from such last) any (within_same any)) (ending_rule (starts_objective first.package_name L) (objective_rule first.package_name x)) (λ last.
     rule_gives (query_of first from such last) any n))))
 
--- A query with at most n brackets and NOTs open at one place of a predicate.
-pub exact_query : (n : ℕ) → IsRule opens (λ m. grammar.query (pred m)) (read.query (predicates.pred n)) any n
+-- A query with at most n brackets and NOTs open at one place of a condition.
+pub exact_query : (n : ℕ) → IsRule opens (λ m. grammar.query (pred m)) (read.query (conditions.pred n)) any n
 exact_query n = query_rule (pred_rule n)
 
--- A further item of a sum, and a further condition, take a token.
-pub summand_shrinks : (numbers : Bool) (package_name : List ℕ) (n : ℕ) → Shrinks (read_aggregates.next_item (read_aggregates.summand numbers package_name (predicates.pred n)))
+-- A further item of a sum, and a further constraint, take a token.
+pub summand_shrinks : (numbers : Bool) (package_name : List ℕ) (n : ℕ) → Shrinks (read_aggregates.next_item (read_aggregates.summand numbers package_name (conditions.pred n)))
 summand_shrinks true package_name n =
     let starts = starts_agg package_name (λ m. pred m) in
     next_item_shrinks (term_rule starts (agg_rule package_name (apart_word kinds.RightParen (of_among or_on) refl) (pred_rule n)))
@@ -310,8 +310,8 @@ summand_shrinks false package_name n =
     let starts = starts_agg package_name (λ m. pred m) in
     next_item_shrinks (part_rule starts (agg_rule package_name (apart_word kinds.RightParen (of_among or_on) refl) (pred_rule n)))
 
-pub condition_shrinks : (package_name : List ℕ) (n : ℕ) → Shrinks (read.next_condition (read_aggregates.condition package_name (predicates.pred n)))
-condition_shrinks package_name n = next_condition_shrinks (condition_rule package_name (pred_rule n))
+pub constraint_shrinks : (package_name : List ℕ) (n : ℕ) → Shrinks (read.next_constraint (read_aggregates.constraint package_name (conditions.pred n)))
+constraint_shrinks package_name n = next_constraint_shrinks (constraint_rule package_name (pred_rule n))
 
 -- A query begins with SELECT.
 pub starts_query : (L : Langs Lexeme Pred) → Starts (is kinds.Select) (λ m. grammar.query (L m))

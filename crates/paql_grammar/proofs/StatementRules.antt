@@ -18,13 +18,13 @@ use Rattle.formal_grammar.proofs.Repeats.{rule_listed}
 use Rattle.formal_grammar.proofs.Loops.{Shrinks, shrinks}
 use Rattle.formal_grammar.proofs.Whole.{one_value}
 use Rattle.paql_grammar.specs.Lexemes.{Lexeme, is, among, opens, word, name, number, whole}
-use Rattle.paql_grammar.specs.Predicates.{pred}
+use Rattle.paql_grammar.specs.Conditions.{pred}
 use Rattle.paql_grammar.specs.Statements as grammar
 use Rattle.paql_grammar.specs.StatementReading as read
 use Rattle.paql_grammar.proofs.KindSets.{of_is, of_among, apart_word, apart_kinds, within_word, disjoint}
 use Rattle.paql_grammar.proofs.Firsts.{starts_behind, joins_behind}
 use Rattle.paql_grammar.proofs.LexemeRules.{word_rule, name_rule, number_rule, whole_rule}
-use Rattle.paql_grammar.proofs.PredicateRules.{lit_rule, lits_rule, pred_rule, or_on}
+use Rattle.paql_grammar.proofs.ConditionRules.{lit_rule, lits_rule, pred_rule, or_on}
 use Rattle.paql_grammar.proofs.QueryRules.{any, within_any, exact_query}
 
 -- what would go on with a list

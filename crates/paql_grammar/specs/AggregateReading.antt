@@ -1,10 +1,11 @@
--- The readings of aggregates, sums, conditions and goals, line by line as the grammar stands. That of predicates is an
--- argument, and so is the package's name.
+-- Private: the parser: the contracts of its functions for sums and conditions.
+-- The readings of aggregates, sums, constraints and goals, line by line as the grammar stands. That
+-- of conditions is an argument, and so is the package's name.
 use Rattle.std.specs.Prelude.{ℕ, Bool, true, false, is_some, List, ◌∷◌, Option, Some, None}
 use Rattle.pq_base.specs.declared.scaled.Scaled.{Scaled}
 use Rattle.paql_lexer.specs.declared.vocabulary.Kind.TheVariants as kinds
-use Rattle.paql_ast.specs.declared.predicates.Pred.{Pred}
-use Rattle.paql_ast.specs.declared.predicates.ColumnName.{ColumnName}
+use Rattle.paql_ast.specs.declared.conditions.Pred.{Pred}
+use Rattle.paql_ast.specs.declared.conditions.ColumnName.{ColumnName}
 use Rattle.paql_ast.specs.declared.aggregates.Plain.{Plain}
 use Rattle.paql_ast.specs.declared.aggregates.Plain.TheVariants.{Count, Sum}
 use Rattle.paql_ast.specs.declared.aggregates.Agg.{Agg}
@@ -16,7 +17,7 @@ use Rattle.paql_ast.specs.declared.queries.Conjunct.TheVariants.{Compare, Betwee
 use Rattle.paql_ast.specs.declared.queries.Goal.{Goal}
 use Rattle.formal_grammar.specs.Parse.{Parser, ◌>>=◌, ◌>>◌, pure, accept, this, when, maybe, repeat}
 use Rattle.paql_grammar.specs.Lexemes.{Lexeme, is, among, name_of, number_of}
-use Rattle.paql_grammar.specs.PredicateReading.{column, comparison, signed}
+use Rattle.paql_grammar.specs.ConditionReading.{column, comparison, signed}
 use Rattle.paql_grammar.specs.Aggregates.{counted, sign_kinds}
 
 -- ---- aggregates
@@ -73,7 +74,8 @@ conditional package_name pred = do
   pure (record { plain = of; only = Some (from, filter) })
 
 unfoldable pub agg : List ℕ → Parser Lexeme Pred → Parser Lexeme Agg
-agg package_name pred = when (is kinds.LeftParen) (conditional package_name pred) (unconditional package_name)
+agg package_name pred =
+    when (is kinds.LeftParen) (conditional package_name pred) (unconditional package_name)
 
 -- ---- terms and sums
 
@@ -155,7 +157,7 @@ sum term = do
   first ← first_item term
   more_items first term
 
--- ---- conditions and goals
+-- ---- constraints and goals
 
 unfoldable pub ends : Parser Lexeme (Scaled × Scaled)
 ends = do
@@ -229,8 +231,8 @@ abbrev pub summand : Bool → List ℕ → Parser Lexeme Pred → Parser Lexeme 
 summand true package_name pred = term (agg package_name pred)
 summand false package_name pred = part (agg package_name pred)
 
-abbrev pub condition : List ℕ → Parser Lexeme Pred → Parser Lexeme Conjunct
-condition package_name pred = conj (sum (summand true package_name pred))
+abbrev pub constraint : List ℕ → Parser Lexeme Pred → Parser Lexeme Conjunct
+constraint package_name pred = conj (sum (summand true package_name pred))
 
 abbrev pub objective : List ℕ → Parser Lexeme Pred → Parser Lexeme Goal
 objective package_name pred = goal (sum (summand false package_name pred))

@@ -1,12 +1,13 @@
--- Aggregates, and the sums, conditions and goals that they stand in. A COUNT depends on the package's name, and what
--- has a predicate in it on the language of predicates.
-use Rattle.std.specs.Prelude.{ℕ, Bool, true, false, is_some, if◌then◌else◌, List, [], ◌∷◌, Option, Some, None}
+-- Aggregates, and the sums, constraints and goals that they stand in. A COUNT depends on the
+-- package's name, and what has a condition in it on the language of conditions.
+use Rattle.std.specs.Prelude.{ℕ, Bool, true, false, is_some, if◌then◌else◌, List, [], ◌∷◌, Option}
+use Rattle.std.specs.Prelude.{Some, None}
 use Rattle.std.specs.Str.{bytes_eq}
 use Rattle.pq_base.specs.declared.scaled.Scaled.{Scaled}
 use Rattle.paql_lexer.specs.declared.vocabulary.Kind.{Kind}
 use Rattle.paql_lexer.specs.declared.vocabulary.Kind.TheVariants as kinds
-use Rattle.paql_ast.specs.declared.predicates.Pred.{Pred}
-use Rattle.paql_ast.specs.declared.predicates.ColumnName.{ColumnName}
+use Rattle.paql_ast.specs.declared.conditions.Pred.{Pred}
+use Rattle.paql_ast.specs.declared.conditions.ColumnName.{ColumnName}
 use Rattle.paql_ast.specs.declared.aggregates.Plain.{Plain}
 use Rattle.paql_ast.specs.declared.aggregates.Plain.TheVariants.{Count, Sum}
 use Rattle.paql_ast.specs.declared.aggregates.Agg.{Agg}
@@ -18,7 +19,7 @@ use Rattle.paql_ast.specs.declared.queries.Conjunct.TheVariants.{Compare, Betwee
 use Rattle.paql_ast.specs.declared.queries.Goal.{Goal}
 use Rattle.formal_grammar.specs.Lang.{Lang, ◌>>=◌, ◌>>◌, ◌or◌, gives, optional, many}
 use Rattle.paql_grammar.specs.Lexemes.{Lexeme, word, name, number}
-use Rattle.paql_grammar.specs.Predicates.{column, comparison, signed}
+use Rattle.paql_grammar.specs.Conditions.{column, comparison, signed}
 
 -- ---- aggregates
 
@@ -158,7 +159,7 @@ sum term = do
   later ← many (next_item term)
   gives (first ∷ later)
 
--- ---- conditions and goals
+-- ---- constraints and goals
 
 -- "BETWEEN" signed "AND" signed
 abbrev pub ends : Lang Lexeme (Scaled × Scaled)
@@ -244,8 +245,8 @@ goal sum_of_parts = do
 
 -- ---- in a query, whose package has this name
 
-abbrev pub condition : List ℕ → Lang Lexeme Pred → Lang Lexeme Conjunct
-condition package_name pred = conj (sum (term (agg package_name pred)))
+abbrev pub constraint : List ℕ → Lang Lexeme Pred → Lang Lexeme Conjunct
+constraint package_name pred = conj (sum (term (agg package_name pred)))
 
 abbrev pub objective : List ℕ → Lang Lexeme Pred → Lang Lexeme Goal
 objective package_name pred = goal (sum (part (agg package_name pred)))

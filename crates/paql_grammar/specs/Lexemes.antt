@@ -1,5 +1,6 @@
 -- Tokens with their bytes, what they show, and the languages of one token.
-use Rattle.std.specs.Prelude.{ℕ, ◌-◌, Bool, true, false, ◌||◌, ◌==◌, if◌then◌else◌, List, [], ◌∷◌, length, take, drop, map, Option, Some, None}
+use Rattle.std.specs.Prelude.{ℕ, ◌-◌, Bool, true, false, ◌||◌, ◌==◌, if◌then◌else◌, List, [], ◌∷◌}
+use Rattle.std.specs.Prelude.{length, take, drop, map, Option, Some, None}
 use denote.Enum.Bare.{sameb}
 use Rattle.paql_lexer.specs.contracts.vocabulary.Kind.{the_type}
 use Rattle.paql_lexer.specs.declared.vocabulary.Kind.{Kind}
@@ -15,7 +16,8 @@ pub record Lexeme : Type 0 where
   pub bytes : List ℕ
 
 abbrev pub lexeme : List ℕ → Token → Lexeme
-lexeme text token = record { kind = token.kind; bytes = take (token.end - token.start) (drop token.start text) }
+lexeme text token =
+    record { kind = token.kind; bytes = take (token.end - token.start) (drop token.start text) }
 
 abbrev pub lexemes : List ℕ → List Token → List Lexeme
 lexemes text tokens = map (lexeme text) tokens
@@ -35,9 +37,12 @@ inside bytes = take (length bytes - 2) (drop 1 bytes)
 
 -- The bytes of a name: a word, or the word inside double quotes.
 abbrev pub name_of : Lexeme → Option (List ℕ)
-name_of t = if is kinds.Name t then Some t.bytes else (if is kinds.QuotedName t then Some (inside t.bytes) else None)
+name_of t =
+    if is kinds.Name t then Some t.bytes
+    else (if is kinds.QuotedName t then Some (inside t.bytes) else None)
 
--- The bytes without each quote that a quote stands before. Where `twin` is true, the first byte is such a quote.
+-- The bytes without each quote that a quote stands before. Where `twin` is true, the first byte is
+-- such a quote.
 abbrev pub undoubled : Bool → List ℕ → List ℕ
 undoubled twin [] = []
 undoubled true (byte ∷ bytes) = undoubled false bytes
@@ -72,6 +77,6 @@ number minus = shown (number_of minus)
 abbrev pub whole : Lang Lexeme ℕ
 whole = shown whole_of
 
--- The tokens that open one more level of a predicate.
+-- The tokens that open one more level of a condition.
 abbrev pub opens : Lexeme → Bool
 opens = among (kinds.LeftParen ∷ kinds.Not ∷ [])

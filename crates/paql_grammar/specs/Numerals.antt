@@ -1,5 +1,6 @@
 -- What a text of digits, with a point or without, is as a number.
-use Rattle.std.specs.Prelude.{◌≡◌, ℕ, zero, suc, ◌<◌, ◌≤◌, ◌^◌, ◌%◌, Bool, ◌==◌, ◌&&◌, if◌then◌else◌, List, [], ◌∷◌, ◌++◌, length, Option, Some, None, ℤ}
+use Rattle.std.specs.Prelude.{◌≡◌, ℕ, zero, suc, ◌<◌, ◌≤◌, ◌^◌, ◌%◌, Bool, ◌==◌, ◌&&◌}
+use Rattle.std.specs.Prelude.{if◌then◌else◌, List, [], ◌∷◌, ◌++◌, length, Option, Some, None, ℤ}
 use Rattle.std.specs.Bool.{nat_le}
 use Rattle.std.specs.Int.RustNames.{unsigned_abs}
 use Rattle.std.specs.Str.{all_ascii_digits}
@@ -9,16 +10,33 @@ use Rattle.std.proofs.Math.Nat.{lt_irrefl}
 use Rattle.pq_base.specs.Decimal.{signed}
 use Rattle.pq_base.specs.declared.scaled.Scaled.{Scaled}
 
--- The number mant / 10^scale as it is stored, by what is decided of it: that it has at most 30 digits and 30
--- places, and no zero behind the point that stands last.
-abbrev pub stored : (mant : ℤ) (scale : ℕ) → Dec (unsigned_abs mant < 10 ^ 30) → Dec (scale ≤ 30) → Dec (unsigned_abs mant % 10 ≡ 0) → Option Scaled
-stored mant zero (yes small) (yes shallow) last = Some (record { mant = mant; scale = zero; small = small; shallow = shallow; shortest = λ some. absurd (lt_irrefl zero some) })
-stored mant (suc scale) (yes small) (yes shallow) (no last) = Some (record { mant = mant; scale = suc scale; small = small; shallow = shallow; shortest = λ some. last })
+-- The number mant / 10^scale as it is stored, by what is decided of it: that it has at most 30
+-- digits and 30 places, and no zero behind the point that stands last.
+abbrev pub stored : (mant : ℤ) (scale : ℕ) → Dec (unsigned_abs mant < 10 ^ 30) → Dec (scale ≤ 30)
+    → Dec (unsigned_abs mant % 10 ≡ 0) → Option Scaled
+stored mant zero (yes small) (yes shallow) last =
+    Some (record {
+      mant = mant;
+      scale = zero;
+      small = small;
+      shallow = shallow;
+      shortest = λ some. absurd (lt_irrefl zero some);
+    })
+stored mant (suc scale) (yes small) (yes shallow) (no last) =
+    Some (record {
+      mant = mant;
+      scale = suc scale;
+      small = small;
+      shallow = shallow;
+      shortest = λ some. last;
+    })
 stored mant scale small shallow last = None
 
 -- The number mant / 10^scale, where it is one in its shortest form.
 unfoldable pub scaled : ℤ → ℕ → Option Scaled
-scaled mant scale = stored mant scale (dec_lt (unsigned_abs mant) (10 ^ 30)) (dec_le scale 30) (ℕ_discrete (unsigned_abs mant % 10) 0)
+scaled mant scale =
+    stored mant scale (dec_lt (unsigned_abs mant) (10 ^ 30)) (dec_le scale 30)
+    (ℕ_discrete (unsigned_abs mant % 10) 0)
 
 -- What stands before the first point, and what stands behind it.
 abbrev pub before_point : List ℕ → List ℕ
@@ -48,8 +66,10 @@ number_of_digits minus whole fraction =
 
 -- The number that a text is, below zero or not. Zeros at the end behind the point don't count.
 abbrev pub number_in : Bool → List ℕ → Option Scaled
-number_in minus text = number_of_digits minus (before_point text) (without_zeros (behind_point text))
+number_in minus text =
+    number_of_digits minus (before_point text) (without_zeros (behind_point text))
 
 -- The whole number that a text is: at most 18 digits and no point.
 abbrev pub whole_in : List ℕ → Option ℕ
-whole_in text = if all_ascii_digits text && nat_le (length text) 18 then Some (digits_value 10 text) else None
+whole_in text =
+    if all_ascii_digits text && nat_le (length text) 18 then Some (digits_value 10 text) else None

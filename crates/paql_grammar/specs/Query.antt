@@ -1,8 +1,9 @@
--- The line of a package query, in four parts that follow one another. The language of predicates is an argument.
+-- The line of a package query, in four parts that follow one another. The language of conditions is
+-- an argument.
 use Rattle.std.specs.Prelude.{ℕ, List, [], ◌∷◌, Option}
 use Rattle.paql_lexer.specs.declared.vocabulary.Kind.{Kind}
 use Rattle.paql_lexer.specs.declared.vocabulary.Kind.TheVariants as kinds
-use Rattle.paql_ast.specs.declared.predicates.Pred.{Pred}
+use Rattle.paql_ast.specs.declared.conditions.Pred.{Pred}
 use Rattle.paql_ast.specs.declared.queries.Conjunct.{Conjunct}
 use Rattle.paql_ast.specs.declared.queries.Goal.{Goal}
 use Rattle.paql_ast.specs.declared.queries.Method.{Method}
@@ -10,7 +11,7 @@ use Rattle.paql_ast.specs.declared.queries.Method.TheVariants.{Direct, SketchRef
 use Rattle.paql_ast.specs.declared.queries.Query.{Query}
 use Rattle.formal_grammar.specs.Lang.{Lang, ◌>>=◌, ◌>>◌, ◌or◌, gives, optional, listed}
 use Rattle.paql_grammar.specs.Lexemes.{Lexeme, word, name, whole}
-use Rattle.paql_grammar.specs.Aggregates.{condition, objective}
+use Rattle.paql_grammar.specs.Aggregates.{constraint, objective}
 
 -- What PACKAGE names, and the package's name.
 pub record Head : Type 0 where
@@ -24,7 +25,7 @@ pub record Relation : Type 0 where
   pub version : Option ℕ
   pub repeat : Option ℕ
 
-pub record Conditions : Type 0 where
+pub record Constraints : Type 0 where
   pub filter : Option Pred
   pub conjuncts : List Conjunct
 
@@ -91,8 +92,8 @@ such_that conj = do
   listed (word kinds.And) conj
 
 -- [ "WHERE" pred ] [ "SUCH" "THAT" conj { "AND" conj } ]
-abbrev pub conditions : Lang Lexeme Pred → Lang Lexeme Conjunct → Lang Lexeme Conditions
-conditions pred conj = do
+abbrev pub constraints : Lang Lexeme Pred → Lang Lexeme Conjunct → Lang Lexeme Constraints
+constraints pred conj = do
   passes ← optional (filter pred)
   conjuncts ← such_that conj or gives []
   gives (record { filter = passes; conjuncts = conjuncts })
@@ -130,7 +131,7 @@ ending goal = do
   gives (record { goal = best; method = solved_by; budget = nodes })
 
 -- The tree of the four parts.
-abbrev pub query_of : Head → Relation → Conditions → Ending → Query
+abbrev pub query_of : Head → Relation → Constraints → Ending → Query
 query_of first from such last = record {
   of = first.of;
   «package» = first.package_name;
@@ -153,6 +154,6 @@ abbrev pub query : Lang Lexeme Pred → Lang Lexeme Query
 query pred = do
   first ← head
   from ← relation
-  such ← conditions pred (condition first.package_name pred)
+  such ← constraints pred (constraint first.package_name pred)
   last ← ending (objective first.package_name pred)
   gives (query_of first from such last)

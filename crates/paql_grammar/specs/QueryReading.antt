@@ -1,16 +1,19 @@
--- The readings of a query's parts, line by line as the grammar stands. That of predicates is an argument.
+-- Private: the parser: the contracts of its functions for queries.
+-- The readings of a query's parts, line by line as the grammar stands. That of conditions is an
+-- argument.
 use Rattle.std.specs.Prelude.{ℕ, List, []}
 use Rattle.paql_lexer.specs.declared.vocabulary.Kind.TheVariants as kinds
-use Rattle.paql_ast.specs.declared.predicates.Pred.{Pred}
+use Rattle.paql_ast.specs.declared.conditions.Pred.{Pred}
 use Rattle.paql_ast.specs.declared.queries.Conjunct.{Conjunct}
 use Rattle.paql_ast.specs.declared.queries.Goal.{Goal}
 use Rattle.paql_ast.specs.declared.queries.Method.{Method}
 use Rattle.paql_ast.specs.declared.queries.Method.TheVariants.{Direct, SketchRefine}
 use Rattle.paql_ast.specs.declared.queries.Query.{Query}
-use Rattle.formal_grammar.specs.Parse.{Parser, ◌>>=◌, ◌>>◌, pure, accept, this, when, maybe, separated}
+use Rattle.formal_grammar.specs.Parse.{Parser, ◌>>=◌, ◌>>◌, pure, accept, this, when, maybe}
+use Rattle.formal_grammar.specs.Parse.{separated}
 use Rattle.paql_grammar.specs.Lexemes.{Lexeme, is, among, name_of, whole_of}
-use Rattle.paql_grammar.specs.AggregateReading.{condition, objective}
-use Rattle.paql_grammar.specs.Query.{Head, Relation, Conditions, Ending, alias_kinds, query_of}
+use Rattle.paql_grammar.specs.AggregateReading.{constraint, objective}
+use Rattle.paql_grammar.specs.Query.{Head, Relation, Constraints, Ending, alias_kinds, query_of}
 use Rattle.paql_grammar.specs.Aggregates.{goal_kinds}
 
 unfoldable pub named : Parser Lexeme (List ℕ)
@@ -53,8 +56,8 @@ filter pred = do
   accept (this (is kinds.Where))
   pred
 
-abbrev pub next_condition : Parser Lexeme Conjunct → Parser Lexeme Conjunct
-next_condition conj = do
+abbrev pub next_constraint : Parser Lexeme Conjunct → Parser Lexeme Conjunct
+next_constraint conj = do
   accept (this (is kinds.And))
   conj
 
@@ -64,8 +67,8 @@ such_that conj = do
   accept (this (is kinds.That))
   separated (is kinds.And) conj
 
-unfoldable pub conditions : Parser Lexeme Pred → Parser Lexeme Conjunct → Parser Lexeme Conditions
-conditions pred conj = do
+unfoldable pub constraints : Parser Lexeme Pred → Parser Lexeme Conjunct → Parser Lexeme Constraints
+constraints pred conj = do
   passes ← maybe (is kinds.Where) (filter pred)
   conjuncts ← when (is kinds.Such) (such_that conj) (pure [])
   pure (record { filter = passes; conjuncts = conjuncts })
@@ -101,6 +104,6 @@ unfoldable pub query : Parser Lexeme Pred → Parser Lexeme Query
 query pred = do
   first ← head
   from ← relation
-  such ← conditions pred (condition first.package_name pred)
+  such ← constraints pred (constraint first.package_name pred)
   last ← ending (objective first.package_name pred)
   pure (query_of first from such last)

@@ -1,3 +1,4 @@
+-- Private: the parser: the contracts of its functions for statements.
 -- The readings of statements, line by line as the grammar stands.
 use Rattle.std.specs.Prelude.{ℕ, false, List}
 use Rattle.paql_lexer.specs.declared.vocabulary.Kind.TheVariants as kinds
@@ -5,12 +6,13 @@ use Rattle.schema_types.specs.declared.Lit.{Lit}
 use Rattle.schema_types.specs.declared.Kind.{Kind}
 use Rattle.schema_types.specs.declared.Kind.TheVariants as column_kinds
 use Rattle.schema_types.specs.declared.Column.{Column}
-use Rattle.paql_ast.specs.declared.predicates.Pred.{Pred}
+use Rattle.paql_ast.specs.declared.conditions.Pred.{Pred}
 use Rattle.paql_ast.specs.declared.statements.Statement.{Statement}
 use Rattle.paql_ast.specs.declared.statements.Statement.TheVariants as statements
-use Rattle.formal_grammar.specs.Parse.{Parser, ◌>>=◌, ◌>>◌, pure, accept, this, when, maybe, separated}
+use Rattle.formal_grammar.specs.Parse.{Parser, ◌>>=◌, ◌>>◌, pure, accept, this, when, maybe}
+use Rattle.formal_grammar.specs.Parse.{separated}
 use Rattle.paql_grammar.specs.Lexemes.{Lexeme, is, name_of, number_of, whole_of}
-use Rattle.paql_grammar.specs.PredicateReading.{lit, lits_in, pred}
+use Rattle.paql_grammar.specs.ConditionReading.{lit, lits_in, pred}
 use Rattle.paql_grammar.specs.QueryReading as queries
 
 -- ---- CREATE
@@ -196,11 +198,19 @@ package_query n = do
 
 -- those of a session
 unfoldable pub session : ℕ → Parser Lexeme Statement
-session n = when (is kinds.Begin) begin (when (is kinds.Commit) commit (when (is kinds.Rollback) rollback (when (is kinds.Certificate) certificate (package_query n))))
+session n =
+    when (is kinds.Begin) begin
+    (when (is kinds.Commit) commit
+    (when (is kinds.Rollback) rollback (when (is kinds.Certificate) certificate (package_query n))))
 
 -- those that change rows, and what stands behind them
 unfoldable pub change : ℕ → Parser Lexeme Statement
-change n = when (is kinds.Update) (update n) (when (is kinds.Delete) (delete n) (when (is kinds.Partition) partition (when (is kinds.Vacuum) vacuum (session n))))
+change n =
+    when (is kinds.Update) (update n)
+    (when (is kinds.Delete) (delete n)
+    (when (is kinds.Partition) partition (when (is kinds.Vacuum) vacuum (session n))))
 
 unfoldable pub statement : ℕ → Parser Lexeme Statement
-statement n = when (is kinds.Create) create (when (is kinds.Insert) insert (when (is kinds.Load) load (change n)))
+statement n =
+    when (is kinds.Create) create
+    (when (is kinds.Insert) insert (when (is kinds.Load) load (change n)))

@@ -5,12 +5,12 @@ use Rattle.schema_types.specs.declared.Lit.{Lit}
 use Rattle.schema_types.specs.declared.Kind.{Kind}
 use Rattle.schema_types.specs.declared.Kind.TheVariants as column_kinds
 use Rattle.schema_types.specs.declared.Column.{Column}
-use Rattle.paql_ast.specs.declared.predicates.Pred.{Pred}
+use Rattle.paql_ast.specs.declared.conditions.Pred.{Pred}
 use Rattle.paql_ast.specs.declared.statements.Statement.{Statement}
 use Rattle.paql_ast.specs.declared.statements.Statement.TheVariants as statements
 use Rattle.formal_grammar.specs.Lang.{Lang, ◌>>=◌, ◌>>◌, ◌or◌, gives, optional, listed}
 use Rattle.paql_grammar.specs.Lexemes.{Lexeme, word, name, number, whole}
-use Rattle.paql_grammar.specs.Predicates.{lit, pred}
+use Rattle.paql_grammar.specs.Conditions.{lit, pred}
 use Rattle.paql_grammar.specs.Query.{query}
 
 -- ---- CREATE
@@ -183,7 +183,8 @@ session n = begin or (commit or (rollback or (certificate or package_query n)))
 abbrev pub change : ℕ → Lang Lexeme Statement
 change n = update n or (delete n or (partition or (vacuum or session n)))
 
--- create | insert | load | update | delete | partition | vacuum | "BEGIN" | "COMMIT" | "ROLLBACK" | "CERTIFICATE" | query
--- with at most n brackets and NOTs of a predicate open at one place
+-- create | insert | load | update | delete | partition | vacuum
+-- | "BEGIN" | "COMMIT" | "ROLLBACK" | "CERTIFICATE" | query,
+-- with at most n brackets and NOTs of a condition open at one place
 unfoldable pub statement : ℕ → Lang Lexeme Statement
 statement n = create or (insert or (load or change n))

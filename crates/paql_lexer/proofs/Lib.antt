@@ -4,3 +4,4 @@ pub mod Quotes
 pub mod Reached
 pub mod Runs
 pub mod TokenLemmas
+pub mod Words

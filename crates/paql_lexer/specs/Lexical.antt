@@ -1,6 +1,8 @@
 -- The lexical grammar: which bytes are a token, and which stand in the gaps between tokens.
 -- In each relation the word is followed by the rest, which says whether the word could go on.
-use Rattle.std.specs.Prelude.{◌≡◌, ℕ, ◌+◌, ◌<◌, ◌≤◌, ◌⊎◌, Bool, not, ◌||◌, ◌==◌, if◌then◌else◌, IsTrue, IsFalse, List, [], ◌∷◌, ◌++◌, length, Option, Some, None, IsUtf8}
+use Rattle.std.specs.Prelude.{◌≡◌, ℕ, ◌+◌, ◌<◌, ◌≤◌, ◌⊎◌, Bool, not, ◌||◌, ◌==◌, if◌then◌else◌}
+use Rattle.std.specs.Prelude.{IsTrue, IsFalse, List, [], ◌∷◌, ◌++◌, length, Option, Some, None}
+use Rattle.std.specs.Prelude.{IsUtf8}
 use Rattle.std.specs.Char.{is_ascii_alphabetic, is_ascii_alphanumeric, is_ascii_digit}
 use Rattle.std.specs.List.{concat}
 use Rattle.std.specs.Str.Parse.{AllDigits}
@@ -139,7 +141,8 @@ short_sign byte =
     else (if byte == 44 then Some kinds.Comma else (if byte == 46 then Some kinds.Dot
     else (if byte == 42 then Some kinds.Star else (if byte == 43 then Some kinds.Plus
     else (if byte == 45 then Some kinds.Minus else (if byte == 61 then Some kinds.Equal
-    else (if byte == 60 then Some kinds.Less else (if byte == 62 then Some kinds.Greater else None)))))))))
+    else (if byte == 60 then Some kinds.Less
+    else (if byte == 62 then Some kinds.Greater else None)))))))))
 
 abbrev pub long_sign : ℕ → ℕ → Option Kind
 long_sign first second =

@@ -6,7 +6,8 @@ use Rattle.paql_lexer.specs.declared.lexer.LexFault.{LexFault}
 use Rattle.paql_lexer.specs.declared.lexer.LexFault.TheVariants.{Lex, Memory}
 use Rattle.paql_lexer.specs.declared.vocabulary.Kind.{Kind}
 
--- From the place `at` on the text is these tokens, each behind a gap, then a gap, and then the rest.
+-- From the place `at` on the text is these tokens, each behind a gap, then a gap, and then the
+-- rest.
 abbrev pub Reaches : ℕ → List ℕ → List Token → List ℕ → Type 0
 Reaches at text [] rest = (gap : List ℕ) × IsGap gap rest × (text ≡ gap ++ rest)
 Reaches at text (token ∷ tokens) rest = (gap word behind : List ℕ) × IsGap gap (word ++ behind)

@@ -1,5 +1,6 @@
 //! The token at the front of a text, by its first byte.
-ghost use Rattle.std.specs.Prelude.{◌≡◌, ◌↔◌, ℕ, ◌<◌, ◌≤◌, ◌++◌, ◌∷◌, [], List, length, map, IsTrue, IsUtf8, MatchOption};
+ghost use Rattle.std.specs.Prelude.{◌≡◌, ◌↔◌, ℕ, ◌<◌, ◌≤◌, ◌++◌, ◌∷◌, [], List, length, map};
+ghost use Rattle.std.specs.Prelude.{IsTrue, IsUtf8, MatchOption};
 ghost use Rattle.std.specs.Str.{str_eq_ignore_ascii_case};
 ghost use Rattle.std.specs.Str.Parse.{AllDigits};
 ghost use Rattle.pq_base.specs.Decimal.{BeginsWithDigit, point_and};
@@ -57,9 +58,14 @@ fn same_word(one: &[u8], other: &[u8]) -> bool
 }
 
 fn kind_in(mut table: &[(&[u8], Kind)], word: &[u8]) -> Kind
-    ensures { result ≡ keywords.kind_in (map (λ entry. (entry.0.now, entry.1)) table.entry.now) word.now }
+    requires { IsTrue (keywords.rises 0 (map (λ entry. (entry.0.now, entry.1)) table.now)) }
+    ensures { result ≡ keywords.kind_in (map (λ entry. (entry.0.now, entry.1)) table.entry.now)
+        word.now }
 {
     while let [entry, rest @ ..] = table {
+        if entry.0.len() > word.len() {
+            return Kind::Name;
+        }
         if same_word(entry.0, word) {
             return entry.1;
         }
@@ -120,7 +126,8 @@ fn quoted_name(body: &[u8]) -> Option<Cut>
     Some((Kind::QuotedName, name.len() + 2))
 }
 
-/// The digits behind the point at the front of a text, where there are some, and what stands behind.
+/// The digits behind the point at the front of a text, where there are some, and what stands
+/// behind.
 fn split_fraction(text: &[u8]) -> (&[u8], &[u8])
     requires { ¬ BeginsWithDigit text.now }
     ensures whole { text.now ≡ point_and result.0.now ++ result.1.now }

@@ -28,11 +28,16 @@ pub enum LexFault {
     Memory,
 }
 
+/// How many bytes a token mostly takes, with the gap in front of it.
+const BYTES_OF_A_TOKEN: usize = 4;
+
 /// The tokens of a text, without space and comments.
 pub fn tokens(alloc: Global, text: &[u8]) -> Result<Vec<Token>, LexFault>
     ensures { MatchResult result (λ tokens. IsTokens text.now tokens.items) (HasFault text.now) }
 {
-    let mut tokens = Vec::new(alloc);
+    let Ok(mut tokens) = Vec::with_capacity(alloc, text.len() / BYTES_OF_A_TOKEN) else {
+        return Err(LexFault::Memory);
+    };
     let mut rest = skip_gap(text);
     while !rest.is_empty() {
         let start = text.len() - rest.len();

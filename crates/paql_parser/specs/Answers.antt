@@ -1,3 +1,4 @@
+-- Private: the contract of `parse`; what it means in a session is in `paql_engine`.
 -- What the parser answers.
 use Rattle.std.specs.Prelude.{ℕ, List, [], Option, Some, None, Result, Ok, Err}
 use Rattle.paql_lexer.specs.declared.lexer.Token.{Token}
@@ -6,7 +7,8 @@ use Rattle.paql_ast.specs.declared.statements.Statement.{Statement}
 use Rattle.formal_grammar.specs.Fault.{IsOnly}
 use Rattle.paql_grammar.specs.Lexemes.{lexemes}
 use Rattle.paql_grammar.specs.Statements.{statement}
-use Rattle.paql_grammar.specs.Texts.{IsStatement, HasSyntaxFault, HasDeepFault, IsSyntaxAt, IsDeepAt}
+use Rattle.paql_grammar.specs.Texts.{IsStatement, HasSyntaxFault, HasDeepFault, IsSyntaxAt}
+use Rattle.paql_grammar.specs.Texts.{IsDeepAt}
 use Rattle.paql_parser.specs.declared.fault.ParseFault.{ParseFault}
 use Rattle.paql_parser.specs.declared.fault.ParseFault.TheVariants.{Lex, Syntax, Deep, Memory}
 

@@ -1,1 +1,2 @@
+pub mod QueryParts
 pub mod Answers

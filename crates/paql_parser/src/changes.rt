@@ -1,24 +1,23 @@
 //! UPDATE and DELETE.
 ghost use Rattle.std.specs.Prelude.{◌≡◌};
 ghost use Rattle.formal_grammar.specs.Parse as parse;
-ghost use Rattle.formal_grammar.specs.Parse.{Gives};
 ghost use Rattle.paql_lexer.specs.declared.vocabulary.Kind.TheVariants as kinds;
 ghost use Rattle.paql_grammar.specs.Lexemes.{is};
 ghost use Rattle.paql_grammar.specs.StatementReading as read;
-ghost use Rattle.paql_predicates.specs.Sources.{left};
+ghost use Rattle.paql_reader.specs.Sources.{Follows};
 
 use formal_grammar::ReadError;
-use paql_ast::predicates::Pred;
+use paql_ast::conditions::Pred;
 use paql_ast::statements::Statement;
 use paql_lexer::Kind;
-use paql_predicates::{Source, joined, lit, name, sees, take};
+use paql_reader::{Source, condition, lit, name, sees, take};
 use schema_types::{Lit, Text};
 use sqlite_items::Items;
 use std::alloc::Global;
 
 #[tactic(auto, unfolding(paql_grammar::specs::StatementReading::assignment))]
 fn assignment(alloc: Global, source: Source<'_>) -> Result<((Text, Lit), Source<'_>), ReadError>
-    ensures { Gives (λ x. (x.0, left x.1)) result (read.assignment (left source.entry)) }
+    ensures { Follows result read.assignment source.entry }
 {
     let (column, rest) = name(alloc, source)?;
     let rest = take(rest, Kind::Equal)?;
@@ -30,7 +29,7 @@ fn next_assignment(
     alloc: Global,
     source: Source<'_>,
 ) -> Result<((Text, Lit), Source<'_>), ReadError>
-    ensures { Gives (λ x. (x.0, left x.1)) result (read.next_assignment (left source.entry)) }
+    ensures { Follows result read.next_assignment source.entry }
 {
     let rest = take(source, Kind::Comma)?;
     assignment(alloc, rest)
@@ -41,7 +40,7 @@ fn assignments(
     alloc: Global,
     source: Source<'_>,
 ) -> Result<(Items<(Text, Lit)>, Source<'_>), ReadError>
-    ensures { Gives (λ x. (x.0, left x.1)) result (read.assignments (left source.entry)) }
+    ensures { Follows result read.assignments source.entry }
 {
     let (first, mut rest) = assignment(alloc, source)?;
     let mut items = Items::new(alloc);
@@ -56,20 +55,19 @@ fn assignments(
 
 #[tactic(auto, unfolding(paql_grammar::specs::StatementReading::filter))]
 fn filter(alloc: Global, depth: u32, source: Source<'_>) -> Result<(Pred, Source<'_>), ReadError>
-    ensures { Gives (λ x. (x.0, left x.1)) result (read.filter depth (left source.entry)) }
+    ensures { Follows result (read.filter depth) source.entry }
 {
     let rest = take(source, Kind::Where)?;
-    joined(alloc, depth, rest)
+    condition(alloc, depth, rest)
 }
 
-/// WHERE and its predicate, where it stands there.
+/// WHERE and its condition, where it stands there.
 fn filtered(
     alloc: Global,
     depth: u32,
     source: Source<'_>,
 ) -> Result<(Option<Pred>, Source<'_>), ReadError>
-    ensures { Gives (λ x. (x.0, left x.1)) result
-        (parse.maybe (is kinds.Where) (read.filter depth) (left source.entry)) }
+    ensures { Follows result (parse.maybe (is kinds.Where) (read.filter depth)) source.entry }
 {
     if !sees(source, Kind::Where) {
         return Ok((None, source));
@@ -85,7 +83,7 @@ pub(crate) fn update(
     depth: u32,
     source: Source<'_>,
 ) -> Result<(Statement, Source<'_>), ReadError>
-    ensures { Gives (λ x. (x.0, left x.1)) result (read.update depth (left source.entry)) }
+    ensures { Follows result (read.update depth) source.entry }
 {
     let rest = take(source, Kind::Update)?;
     let (table, rest) = name(alloc, rest)?;
@@ -107,7 +105,7 @@ pub(crate) fn delete(
     depth: u32,
     source: Source<'_>,
 ) -> Result<(Statement, Source<'_>), ReadError>
-    ensures { Gives (λ x. (x.0, left x.1)) result (read.delete depth (left source.entry)) }
+    ensures { Follows result (read.delete depth) source.entry }
 {
     let rest = take(source, Kind::Delete)?;
     let rest = take(rest, Kind::From)?;

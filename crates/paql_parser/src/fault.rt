@@ -11,7 +11,7 @@ pub enum ParseFault {
     /// With the token at this place, or with the end there, the tokens begin no statement.
     #[error("the token at {0} cannot stand there")]
     Syntax(usize),
-    /// The bracket or NOT at this place would be the 65th open one of its predicate.
+    /// The bracket or NOT at this place would be the 65th open one of its condition.
     #[error("the token at {0} nests too deeply")]
     Deep(usize),
     #[error("out of memory")]

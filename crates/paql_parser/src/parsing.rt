@@ -9,12 +9,12 @@ use crate::statements::whole;
 use formal_grammar::{ReadError, Why};
 use paql_ast::statements::Statement;
 use paql_lexer::{LexFault, Token, tokens};
-use paql_predicates::Source;
+use paql_reader::Source;
 use std::alloc::Global;
 
-/// The statement that a text spells, or nothing where the text has no token. At most 64 brackets and NOTs of
-/// a predicate may be open at one place. A fault of the tokens comes first; faults of syntax are judged
-/// without the limit.
+/// The statement that a text spells, or nothing where the text has no token. At most 64 brackets
+/// and NOTs of a condition may be open at one place. A fault of the tokens comes first; faults of
+/// syntax are judged without the limit.
 pub fn parse(alloc: Global, text: &[u8]) -> Result<Option<Statement>, ParseFault>
     // The one statement that the text spells, or that it has no token, or the fault and its place.
     ensures answer { Answers text.now result }

@@ -2,23 +2,23 @@
 ghost use Rattle.std.specs.Prelude.{◌≡◌};
 ghost use Rattle.formal_grammar.specs.Parse.{Gives, all_of};
 ghost use Rattle.paql_grammar.specs.StatementReading as read;
-ghost use Rattle.paql_predicates.specs.Sources.{left};
+ghost use Rattle.paql_reader.specs.Sources.{Follows, left};
 
 use crate::changes::{delete, update};
+use crate::query::query;
 use crate::tables::{create, insert, load, partition, vacuum};
 use formal_grammar::{ReadError, Why};
 use paql_ast::statements::Statement;
 use paql_lexer::Kind;
-use paql_predicates::{Source, sees, take};
-use paql_queries::query::query;
+use paql_reader::{Source, sees, take};
 use std::alloc::Global;
 
-/// How many brackets and NOTs of a predicate may be open at one place.
+/// How many brackets and NOTs of a condition may be open at one place.
 const MAX_DEPTH: u32 = 64;
 
 #[tactic(auto, unfolding(paql_grammar::specs::StatementReading::begin))]
 fn begin(source: Source<'_>) -> Result<(Statement, Source<'_>), ReadError>
-    ensures { Gives (λ x. (x.0, left x.1)) result (read.begin (left source.entry)) }
+    ensures { Follows result read.begin source.entry }
 {
     let rest = take(source, Kind::Begin)?;
     Ok((Statement::Begin, rest))
@@ -26,7 +26,7 @@ fn begin(source: Source<'_>) -> Result<(Statement, Source<'_>), ReadError>
 
 #[tactic(auto, unfolding(paql_grammar::specs::StatementReading::commit))]
 fn commit(source: Source<'_>) -> Result<(Statement, Source<'_>), ReadError>
-    ensures { Gives (λ x. (x.0, left x.1)) result (read.commit (left source.entry)) }
+    ensures { Follows result read.commit source.entry }
 {
     let rest = take(source, Kind::Commit)?;
     Ok((Statement::Commit, rest))
@@ -34,7 +34,7 @@ fn commit(source: Source<'_>) -> Result<(Statement, Source<'_>), ReadError>
 
 #[tactic(auto, unfolding(paql_grammar::specs::StatementReading::rollback))]
 fn rollback(source: Source<'_>) -> Result<(Statement, Source<'_>), ReadError>
-    ensures { Gives (λ x. (x.0, left x.1)) result (read.rollback (left source.entry)) }
+    ensures { Follows result read.rollback source.entry }
 {
     let rest = take(source, Kind::Rollback)?;
     Ok((Statement::Rollback, rest))
@@ -42,7 +42,7 @@ fn rollback(source: Source<'_>) -> Result<(Statement, Source<'_>), ReadError>
 
 #[tactic(auto, unfolding(paql_grammar::specs::StatementReading::certificate))]
 fn certificate(source: Source<'_>) -> Result<(Statement, Source<'_>), ReadError>
-    ensures { Gives (λ x. (x.0, left x.1)) result (read.certificate (left source.entry)) }
+    ensures { Follows result read.certificate source.entry }
 {
     let rest = take(source, Kind::Certificate)?;
     Ok((Statement::Certificate, rest))
@@ -54,7 +54,7 @@ fn package_query(
     depth: u32,
     source: Source<'_>,
 ) -> Result<(Statement, Source<'_>), ReadError>
-    ensures { Gives (λ x. (x.0, left x.1)) result (read.package_query depth (left source.entry)) }
+    ensures { Follows result (read.package_query depth) source.entry }
 {
     let (query, rest) = query(alloc, depth, source)?;
     Ok((Statement::Query(query), rest))
@@ -67,7 +67,7 @@ fn session(
     depth: u32,
     source: Source<'_>,
 ) -> Result<(Statement, Source<'_>), ReadError>
-    ensures { Gives (λ x. (x.0, left x.1)) result (read.session depth (left source.entry)) }
+    ensures { Follows result (read.session depth) source.entry }
 {
     if sees(source, Kind::Begin) {
         return begin(source);
@@ -91,7 +91,7 @@ fn change(
     depth: u32,
     source: Source<'_>,
 ) -> Result<(Statement, Source<'_>), ReadError>
-    ensures { Gives (λ x. (x.0, left x.1)) result (read.change depth (left source.entry)) }
+    ensures { Follows result (read.change depth) source.entry }
 {
     if sees(source, Kind::Update) {
         return update(alloc, depth, source);
@@ -114,7 +114,7 @@ fn statement(
     depth: u32,
     source: Source<'_>,
 ) -> Result<(Statement, Source<'_>), ReadError>
-    ensures { Gives (λ x. (x.0, left x.1)) result (read.statement depth (left source.entry)) }
+    ensures { Follows result (read.statement depth) source.entry }
 {
     if sees(source, Kind::Create) {
         return create(alloc, source);

@@ -1,13 +1,12 @@
 //! CREATE, INSERT, LOAD, PARTITION and VACUUM.
 ghost use Rattle.std.specs.Prelude.{◌≡◌};
-ghost use Rattle.formal_grammar.specs.Parse.{Gives};
 ghost use Rattle.paql_grammar.specs.StatementReading as read;
-ghost use Rattle.paql_predicates.specs.Sources.{left};
+ghost use Rattle.paql_reader.specs.Sources.{Follows};
 
 use formal_grammar::ReadError;
 use paql_ast::statements::Statement;
 use paql_lexer::Kind;
-use paql_predicates::{Source, lits, name, number, sees, take, whole};
+use paql_reader::{Source, lits, name, number, sees, take, whole};
 use schema_types::{Column, Lit, Text};
 use sqlite_items::Items;
 use std::alloc::Global;
@@ -16,7 +15,7 @@ use std::alloc::Global;
 
 #[tactic(auto, unfolding(paql_grammar::specs::StatementReading::int_kind))]
 fn int_kind(source: Source<'_>) -> Result<(schema_types::Kind, Source<'_>), ReadError>
-    ensures { Gives (λ x. (x.0, left x.1)) result (read.int_kind (left source.entry)) }
+    ensures { Follows result read.int_kind source.entry }
 {
     let rest = take(source, Kind::Int)?;
     Ok((schema_types::Kind::Int, rest))
@@ -24,7 +23,7 @@ fn int_kind(source: Source<'_>) -> Result<(schema_types::Kind, Source<'_>), Read
 
 #[tactic(auto, unfolding(paql_grammar::specs::StatementReading::dec_kind))]
 fn dec_kind(source: Source<'_>) -> Result<(schema_types::Kind, Source<'_>), ReadError>
-    ensures { Gives (λ x. (x.0, left x.1)) result (read.dec_kind (left source.entry)) }
+    ensures { Follows result read.dec_kind source.entry }
 {
     let rest = take(source, Kind::Dec)?;
     let rest = take(rest, Kind::LeftParen)?;
@@ -35,7 +34,7 @@ fn dec_kind(source: Source<'_>) -> Result<(schema_types::Kind, Source<'_>), Read
 
 #[tactic(auto, unfolding(paql_grammar::specs::StatementReading::text_kind))]
 fn text_kind(source: Source<'_>) -> Result<(schema_types::Kind, Source<'_>), ReadError>
-    ensures { Gives (λ x. (x.0, left x.1)) result (read.text_kind (left source.entry)) }
+    ensures { Follows result read.text_kind source.entry }
 {
     let rest = take(source, Kind::TextType)?;
     Ok((schema_types::Kind::Text, rest))
@@ -43,7 +42,7 @@ fn text_kind(source: Source<'_>) -> Result<(schema_types::Kind, Source<'_>), Rea
 
 #[tactic(auto, unfolding(paql_grammar::specs::StatementReading::column_kind))]
 fn column_kind(source: Source<'_>) -> Result<(schema_types::Kind, Source<'_>), ReadError>
-    ensures { Gives (λ x. (x.0, left x.1)) result (read.column_kind (left source.entry)) }
+    ensures { Follows result read.column_kind source.entry }
 {
     if sees(source, Kind::Int) {
         return int_kind(source);
@@ -56,7 +55,7 @@ fn column_kind(source: Source<'_>) -> Result<(schema_types::Kind, Source<'_>), R
 
 #[tactic(auto, unfolding(paql_grammar::specs::StatementReading::defined_column))]
 fn defined_column(alloc: Global, source: Source<'_>) -> Result<(Column, Source<'_>), ReadError>
-    ensures { Gives (λ x. (x.0, left x.1)) result (read.defined_column (left source.entry)) }
+    ensures { Follows result read.defined_column source.entry }
 {
     let (name, rest) = name(alloc, source)?;
     let (kind, rest) = column_kind(rest)?;
@@ -64,7 +63,7 @@ fn defined_column(alloc: Global, source: Source<'_>) -> Result<(Column, Source<'
 }
 
 fn next_column(alloc: Global, source: Source<'_>) -> Result<(Column, Source<'_>), ReadError>
-    ensures { Gives (λ x. (x.0, left x.1)) result (read.next_column (left source.entry)) }
+    ensures { Follows result read.next_column source.entry }
 {
     let rest = take(source, Kind::Comma)?;
     defined_column(alloc, rest)
@@ -75,7 +74,7 @@ fn defined_columns(
     alloc: Global,
     source: Source<'_>,
 ) -> Result<(Items<Column>, Source<'_>), ReadError>
-    ensures { Gives (λ x. (x.0, left x.1)) result (read.defined_columns (left source.entry)) }
+    ensures { Follows result read.defined_columns source.entry }
 {
     let (first, mut rest) = defined_column(alloc, source)?;
     let mut items = Items::new(alloc);
@@ -94,7 +93,7 @@ pub(crate) fn create(
     alloc: Global,
     source: Source<'_>,
 ) -> Result<(Statement, Source<'_>), ReadError>
-    ensures { Gives (λ x. (x.0, left x.1)) result (read.create (left source.entry)) }
+    ensures { Follows result read.create source.entry }
 {
     let rest = take(source, Kind::Create)?;
     let rest = take(rest, Kind::Table)?;
@@ -107,32 +106,45 @@ pub(crate) fn create(
 
 // ---- INSERT
 
+/// A row. `width` is that of the row before, which is mostly its own.
+#[inline(always)]
 #[tactic(auto, unfolding(paql_grammar::specs::StatementReading::tuple))]
-fn tuple(alloc: Global, source: Source<'_>) -> Result<(Items<Lit>, Source<'_>), ReadError>
-    ensures { Gives (λ x. (x.0, left x.1)) result (read.tuple (left source.entry)) }
+fn tuple(
+    alloc: Global,
+    width: usize,
+    source: Source<'_>,
+) -> Result<(Items<Lit>, Source<'_>), ReadError>
+    ensures { Follows result read.tuple source.entry }
 {
     let rest = take(source, Kind::LeftParen)?;
-    let (row, rest) = lits(alloc, rest)?;
+    let (row, rest) = lits(alloc, width, rest)?;
     let rest = take(rest, Kind::RightParen)?;
     Ok((row, rest))
 }
 
-fn next_tuple(alloc: Global, source: Source<'_>) -> Result<(Items<Lit>, Source<'_>), ReadError>
-    ensures { Gives (λ x. (x.0, left x.1)) result (read.next_tuple (left source.entry)) }
+#[inline(always)]
+fn next_tuple(
+    alloc: Global,
+    width: usize,
+    source: Source<'_>,
+) -> Result<(Items<Lit>, Source<'_>), ReadError>
+    ensures { Follows result read.next_tuple source.entry }
 {
     let rest = take(source, Kind::Comma)?;
-    tuple(alloc, rest)
+    tuple(alloc, width, rest)
 }
 
 #[tactic(auto, unfolding(paql_grammar::specs::StatementReading::tuples))]
 fn tuples(alloc: Global, source: Source<'_>) -> Result<(Items<Items<Lit>>, Source<'_>), ReadError>
-    ensures { Gives (λ x. (x.0, left x.1)) result (read.tuples (left source.entry)) }
+    ensures { Follows result read.tuples source.entry }
 {
-    let (first, mut rest) = tuple(alloc, source)?;
+    let (first, mut rest) = tuple(alloc, 0, source)?;
+    let mut width = first.len();
     let mut items = Items::new(alloc);
     items.push(first)?;
     'parts: while sees(rest, Kind::Comma) {
-        let (next, after) = next_tuple(alloc, rest)?;
+        let (next, after) = next_tuple(alloc, width, rest)?;
+        width = next.len();
         items.push(next)?;
         rest = after;
     }
@@ -145,7 +157,7 @@ pub(crate) fn insert(
     alloc: Global,
     source: Source<'_>,
 ) -> Result<(Statement, Source<'_>), ReadError>
-    ensures { Gives (λ x. (x.0, left x.1)) result (read.insert (left source.entry)) }
+    ensures { Follows result read.insert source.entry }
 {
     let rest = take(source, Kind::Insert)?;
     let rest = take(rest, Kind::Into)?;
@@ -160,7 +172,7 @@ pub(crate) fn insert(
 /// `LOAD`
 #[tactic(auto, unfolding(paql_grammar::specs::StatementReading::load))]
 pub(crate) fn load(alloc: Global, source: Source<'_>) -> Result<(Statement, Source<'_>), ReadError>
-    ensures { Gives (λ x. (x.0, left x.1)) result (read.load (left source.entry)) }
+    ensures { Follows result read.load source.entry }
 {
     let rest = take(source, Kind::Load)?;
     let (table, rest) = name(alloc, rest)?;
@@ -172,7 +184,7 @@ pub(crate) fn load(alloc: Global, source: Source<'_>) -> Result<(Statement, Sour
 // ---- PARTITION and VACUUM
 
 fn next_name(alloc: Global, source: Source<'_>) -> Result<(Text, Source<'_>), ReadError>
-    ensures { Gives (λ x. (x.0, left x.1)) result (read.next_name (left source.entry)) }
+    ensures { Follows result read.next_name source.entry }
 {
     let rest = take(source, Kind::Comma)?;
     name(alloc, rest)
@@ -180,7 +192,7 @@ fn next_name(alloc: Global, source: Source<'_>) -> Result<(Text, Source<'_>), Re
 
 #[tactic(auto, unfolding(paql_grammar::specs::StatementReading::names))]
 fn names(alloc: Global, source: Source<'_>) -> Result<(Items<Text>, Source<'_>), ReadError>
-    ensures { Gives (λ x. (x.0, left x.1)) result (read.names (left source.entry)) }
+    ensures { Follows result read.names source.entry }
 {
     let (first, mut rest) = name(alloc, source)?;
     let mut items = Items::new(alloc);
@@ -199,7 +211,7 @@ pub(crate) fn partition(
     alloc: Global,
     source: Source<'_>,
 ) -> Result<(Statement, Source<'_>), ReadError>
-    ensures { Gives (λ x. (x.0, left x.1)) result (read.partition (left source.entry)) }
+    ensures { Follows result read.partition source.entry }
 {
     let rest = take(source, Kind::Partition)?;
     let (table, rest) = name(alloc, rest)?;
@@ -223,7 +235,7 @@ pub(crate) fn partition(
 /// `VACUUM`
 #[tactic(auto, unfolding(paql_grammar::specs::StatementReading::vacuum))]
 pub(crate) fn vacuum(source: Source<'_>) -> Result<(Statement, Source<'_>), ReadError>
-    ensures { Gives (λ x. (x.0, left x.1)) result (read.vacuum (left source.entry)) }
+    ensures { Follows result read.vacuum source.entry }
 {
     let rest = take(source, Kind::Vacuum)?;
     let (version, rest) = whole(rest)?;

@@ -5,7 +5,7 @@ use Rattle.paql_lexer.specs.declared.vocabulary.Kind.{Kind}
 use Rattle.paql_lexer.specs.declared.vocabulary.Kind.TheVariants as kinds
 use Rattle.paql_lexer.specs.Lexical.{doubled}
 use Rattle.paql_grammar.specs.Lexemes.{Lexeme, is}
-use Rattle.paql_grammar.specs.Spacing.{calls, ends_term, touches, spaced_behind, spaced}
+use Rattle.paql_printer.specs.Spacing.{calls, ends_term, touches, spaced_behind, spaced}
 use Rattle.paql_printer.specs.Fronts.{Front, start, of_kind, begun, more, put, written}
 
 -- ---- bytes

@@ -7,8 +7,8 @@ use Rattle.paql_lexer.specs.declared.vocabulary.Kind.{Kind}
 use Rattle.paql_lexer.specs.declared.vocabulary.Kind.TheVariants as kinds
 use Rattle.paql_ast.specs.declared.aggregates.SumItem.{SumItem}
 use Rattle.paql_grammar.specs.Lexemes.{Lexeme}
-use Rattle.paql_grammar.specs.Spellings.{spelled}
-use Rattle.paql_grammar.specs.Print.{behind, listed, term, sum, first_item, next_item}
+use Rattle.paql_printer.specs.Spellings.{spelled}
+use Rattle.paql_printer.specs.Print.{behind, listed, term, sum, first_item, next_item}
 use Rattle.paql_printer.specs.Fronts.{Front, put, written}
 use Rattle.paql_printer.specs.Parts.{separator, sign}
 

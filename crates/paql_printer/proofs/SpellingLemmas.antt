@@ -7,7 +7,7 @@ use denote.Enum.Bare.{sameb}
 use Rattle.paql_lexer.specs.contracts.vocabulary.Kind.{the_type}
 use Rattle.paql_lexer.specs.Keywords.{word_kind}
 use Rattle.paql_grammar.specs.Lexemes.{Lexeme}
-use Rattle.paql_grammar.specs.Spellings.{signs, spelling_in, name}
+use Rattle.paql_printer.specs.Spellings.{signs, spelling_in, name}
 
 -- a kind that is no sign is looked for among the keywords
 pub behind_signs : (kind : Kind) → (length (spelling_in signs kind) == 0) ≡ true → spelling_in (signs ++ keywords) kind ≡ spelling_in keywords kind

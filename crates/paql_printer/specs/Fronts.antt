@@ -1,9 +1,10 @@
+-- Private: the printer: the text that is written so far.
 -- The front of a text that is being written.
-use Rattle.std.specs.Prelude.{ℕ, if◌then◌else◌, List, [], ◌∷◌, ◌++◌, fold}
+use Rattle.std.specs.Prelude.{◌≡◌, ℕ, if◌then◌else◌, List, [], ◌∷◌, ◌++◌, fold, Result, OnOk}
 use Rattle.paql_lexer.specs.declared.vocabulary.Kind.{Kind}
 use Rattle.paql_lexer.specs.declared.vocabulary.Kind.TheVariants as kinds
 use Rattle.paql_grammar.specs.Lexemes.{Lexeme}
-use Rattle.paql_grammar.specs.Spacing.{touches}
+use Rattle.paql_printer.specs.Spacing.{touches}
 
 -- The bytes so far, and the kinds of the last two lexemes.
 pub record Front : Type 0 where
@@ -22,7 +23,8 @@ of_kind kind = record { kind = kind; bytes = [] }
 -- A lexeme of this kind begins, behind a space where it doesn't touch the last one.
 unfoldable pub begun : Front → Kind → Front
 begun front kind = record {
-  bytes = if touches (of_kind front.before) (of_kind front.last) (of_kind kind) then front.bytes else front.bytes ++ 32 ∷ [];
+  bytes = if touches (of_kind front.before) (of_kind front.last) (of_kind kind) then front.bytes
+      else front.bytes ++ 32 ∷ [];
   before = front.last;
   last = kind;
 }
@@ -38,3 +40,7 @@ put front next = more (begun front next.kind) next.bytes
 -- More lexemes.
 abbrev pub written : Front → List Lexeme → Front
 written front lexemes = fold put front lexemes
+
+-- The lexemes are written behind the front, unless memory runs out.
+abbrev pub Writes : {E : Type 0} → Result (Unit {0}) E → Front → Front → List Lexeme → Type 0
+Writes result before after lexemes = OnOk result (after ≡ written before lexemes)

@@ -1,15 +1,14 @@
 //! Aggregates, and the sums that they stand in.
-ghost use Rattle.std.specs.Prelude.{◌≡◌, OnOk};
-ghost use Rattle.paql_grammar.specs.Print as print;
-ghost use Rattle.paql_printer.specs.Fronts.{written};
+ghost use Rattle.paql_printer.specs.Print as print;
+ghost use Rattle.paql_printer.specs.Fronts.{Writes};
 ghost use Rattle.paql_printer.specs.Parts as parts;
 
+use crate::conditions::condition;
 use crate::leaves::{column, name, number};
 use crate::lists::separate;
-use crate::predicates::predicate;
 use crate::writer::Writer;
 use paql_ast::aggregates::{Agg, Plain, SumItem, Term};
-use paql_ast::predicates::{ColumnName, Pred};
+use paql_ast::conditions::{ColumnName, Pred};
 use paql_lexer::Kind;
 use pq_base::Scaled;
 use schema_types::Text;
@@ -17,7 +16,7 @@ use std::alloc::AllocError;
 
 /// All rows of a package.
 fn all_of(writer: &mut Writer, package: &Text) -> Result<(), AllocError>
-    ensures { OnOk result (writer.new ≡ written writer.old (parts.all_of «package».now)) }
+    ensures { Writes result writer.old writer.new (parts.all_of «package».now) }
 {
     name(writer, package)?;
     writer.word(Kind::Dot)?;
@@ -31,7 +30,7 @@ fn rows(
     package: &Text,
     of: &Option<Text>,
 ) -> Result<(), AllocError>
-    ensures { OnOk result (writer.new ≡ written writer.old (print.rows inside «package».now of.now)) }
+    ensures { Writes result writer.old writer.new (print.rows inside «package».now of.now) }
 {
     match of {
         Some(of) => all_of(writer, of),
@@ -41,7 +40,7 @@ fn rows(
 
 /// The rows of the query's own package.
 fn own_rows(writer: &mut Writer, inside: bool, package: &Text) -> Result<(), AllocError>
-    ensures { OnOk result (writer.new ≡ written writer.old (print.rows inside «package».now None)) }
+    ensures { Writes result writer.old writer.new (print.rows inside «package».now None) }
 {
     if inside {
         return writer.word(Kind::Star);
@@ -51,8 +50,7 @@ fn own_rows(writer: &mut Writer, inside: bool, package: &Text) -> Result<(), All
 
 /// An aggregate of all copies.
 fn plain(writer: &mut Writer, inside: bool, package: &Text, of: &Plain) -> Result<(), AllocError>
-    ensures { OnOk result (writer.new ≡ written writer.old
-        (print.plain inside «package».now of.now)) }
+    ensures { Writes result writer.old writer.new (print.plain inside «package».now of.now) }
 {
     match of {
         Plain::Count(of) => {
@@ -70,7 +68,7 @@ fn plain(writer: &mut Writer, inside: bool, package: &Text, of: &Plain) -> Resul
     }
 }
 
-/// An aggregate of those copies that meet a predicate.
+/// An aggregate of those copies that meet a condition.
 fn conditional(
     writer: &mut Writer,
     package: &Text,
@@ -78,8 +76,8 @@ fn conditional(
     from: &Text,
     filter: &Pred,
 ) -> Result<(), AllocError>
-    ensures { OnOk result (writer.new ≡ written writer.old
-        (print.only «package».now of.now (Some (from.now, filter.now)))) }
+    ensures { Writes result writer.old writer.new
+        (print.only «package».now of.now (Some (from.now, filter.now))) }
 {
     writer.word(Kind::LeftParen)?;
     writer.word(Kind::Select)?;
@@ -87,7 +85,7 @@ fn conditional(
     writer.word(Kind::From)?;
     name(writer, from)?;
     writer.word(Kind::Where)?;
-    predicate(writer, filter)?;
+    condition(writer, filter)?;
     writer.word(Kind::RightParen)
 }
 
@@ -97,8 +95,7 @@ fn only(
     of: &Plain,
     filter: &Option<(Text, Pred)>,
 ) -> Result<(), AllocError>
-    ensures { OnOk result (writer.new ≡ written writer.old
-        (print.only «package».now of.now filter.now)) }
+    ensures { Writes result writer.old writer.new (print.only «package».now of.now filter.now) }
 {
     match filter {
         Some(filter) => conditional(writer, package, of, &filter.0, &filter.1),
@@ -107,13 +104,13 @@ fn only(
 }
 
 fn agg(writer: &mut Writer, package: &Text, of: &Agg) -> Result<(), AllocError>
-    ensures { OnOk result (writer.new ≡ written writer.old (print.agg «package».now of.now)) }
+    ensures { Writes result writer.old writer.new (print.agg «package».now of.now) }
 {
     only(writer, package, &of.plain, &of.only)
 }
 
 fn factor(writer: &mut Writer, times: Option<Scaled>) -> Result<(), AllocError>
-    ensures { OnOk result (writer.new ≡ written writer.old (print.optional print.factor times)) }
+    ensures { Writes result writer.old writer.new (print.optional print.factor times) }
 {
     match times {
         Some(times) => {
@@ -125,7 +122,7 @@ fn factor(writer: &mut Writer, times: Option<Scaled>) -> Result<(), AllocError>
 }
 
 fn term(writer: &mut Writer, package: &Text, of: &Term) -> Result<(), AllocError>
-    ensures { OnOk result (writer.new ≡ written writer.old (print.term «package».now of.now)) }
+    ensures { Writes result writer.old writer.new (print.term «package».now of.now) }
 {
     match of {
         Term::Number(value) => number(writer, *value),
@@ -141,7 +138,7 @@ fn term(writer: &mut Writer, package: &Text, of: &Term) -> Result<(), AllocError
 
 /// The sign in front of a term.
 fn sign(writer: &mut Writer, at: usize, minus: bool) -> Result<(), AllocError>
-    ensures { OnOk result (writer.new ≡ written writer.old (parts.sign at minus)) }
+    ensures { Writes result writer.old writer.new (parts.sign at minus) }
 {
     if minus {
         return writer.word(Kind::Minus);
@@ -151,7 +148,7 @@ fn sign(writer: &mut Writer, at: usize, minus: bool) -> Result<(), AllocError>
 
 /// A sum.
 pub(crate) fn sum(writer: &mut Writer, package: &Text, items: &[SumItem]) -> Result<(), AllocError>
-    ensures { OnOk result (writer.new ≡ written writer.old (print.sum «package».now items.now)) }
+    ensures { Writes result writer.old writer.new (print.sum «package».now items.now) }
 {
     for (at, item) in items.iter().enumerate() {
         sign(writer, at, item.minus)?;

@@ -2,13 +2,13 @@
 ghost use Rattle.std.specs.Prelude.{◌≡◌, ◌∷◌, [], OnOk};
 ghost use Rattle.paql_lexer.specs.declared.vocabulary.Kind.TheVariants as kinds;
 ghost use Rattle.paql_lexer.specs.Lexical.{doubled};
-ghost use Rattle.paql_grammar.specs.Print as print;
-ghost use Rattle.paql_grammar.specs.Spellings as spellings;
-ghost use Rattle.paql_grammar.specs.Spellings.{spelled};
-ghost use Rattle.paql_printer.specs.Fronts.{more, put, written};
+ghost use Rattle.paql_printer.specs.Print as print;
+ghost use Rattle.paql_printer.specs.Spellings as spellings;
+ghost use Rattle.paql_printer.specs.Spellings.{spelled};
+ghost use Rattle.paql_printer.specs.Fronts.{Writes, more, put};
 
 use crate::writer::Writer;
-use paql_ast::predicates::{CmpOp, ColumnName, Operand};
+use paql_ast::conditions::{CmpOp, ColumnName, Operand};
 use paql_lexer::{Kind, word_kind};
 use pq_base::Scaled;
 use pq_base::decimal::print_decimal;
@@ -77,7 +77,7 @@ pub(crate) fn whole(writer: &mut Writer, value: u64) -> Result<(), AllocError>
 
 /// A number, behind a minus where it is below zero.
 pub(crate) fn signed(writer: &mut Writer, value: Scaled) -> Result<(), AllocError>
-    ensures { OnOk result (writer.new ≡ written writer.old (spellings.signed value)) }
+    ensures { Writes result writer.old writer.new (spellings.signed value) }
 {
     if value.mant < 0 {
         writer.word(Kind::Minus)?;
@@ -87,7 +87,7 @@ pub(crate) fn signed(writer: &mut Writer, value: Scaled) -> Result<(), AllocErro
 
 /// A number or a text.
 pub(crate) fn lit(writer: &mut Writer, lit: &Lit) -> Result<(), AllocError>
-    ensures { OnOk result (writer.new ≡ written writer.old (print.lit lit.now)) }
+    ensures { Writes result writer.old writer.new (print.lit lit.now) }
 {
     match lit {
         Lit::Num(value) => signed(writer, *value),
@@ -96,8 +96,8 @@ pub(crate) fn lit(writer: &mut Writer, lit: &Lit) -> Result<(), AllocError>
 }
 
 fn prefix(writer: &mut Writer, prefix: &Option<Text>) -> Result<(), AllocError>
-    ensures { OnOk result (writer.new ≡ written writer.old
-        (print.optional (λ word. spellings.name word ∷ (spelled kinds.Dot ∷ [])) prefix.now)) }
+    ensures { Writes result writer.old writer.new
+        (print.optional (λ word. spellings.name word ∷ (spelled kinds.Dot ∷ [])) prefix.now) }
 {
     match prefix {
         Some(word) => {
@@ -110,7 +110,7 @@ fn prefix(writer: &mut Writer, prefix: &Option<Text>) -> Result<(), AllocError>
 
 /// A column, with a name in front of it or not.
 pub(crate) fn column(writer: &mut Writer, column: &ColumnName) -> Result<(), AllocError>
-    ensures { OnOk result (writer.new ≡ written writer.old (print.column column.now)) }
+    ensures { Writes result writer.old writer.new (print.column column.now) }
 {
     prefix(writer, &column.prefix)?;
     name(writer, &column.name)
@@ -138,7 +138,7 @@ pub(crate) fn operator(writer: &mut Writer, op: CmpOp) -> Result<(), AllocError>
 
 /// What a column is compared with.
 pub(crate) fn operand(writer: &mut Writer, operand: &Operand) -> Result<(), AllocError>
-    ensures { OnOk result (writer.new ≡ written writer.old (print.operand operand.now)) }
+    ensures { Writes result writer.old writer.new (print.operand operand.now) }
 {
     match operand {
         Operand::Lit(value) => lit(writer, value),

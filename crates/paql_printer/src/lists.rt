@@ -1,8 +1,7 @@
 //! Lists with commas between their entries.
-ghost use Rattle.std.specs.Prelude.{◌≡◌, OnOk};
 ghost use Rattle.paql_lexer.specs.declared.vocabulary.Kind.TheVariants as kinds;
-ghost use Rattle.paql_grammar.specs.Print as print;
-ghost use Rattle.paql_printer.specs.Fronts.{written};
+ghost use Rattle.paql_printer.specs.Print as print;
+ghost use Rattle.paql_printer.specs.Fronts.{Writes};
 ghost use Rattle.paql_printer.specs.Parts.{separator};
 
 use crate::leaves::{lit, name, whole};
@@ -20,7 +19,7 @@ pub(crate) trait Entry {
     ghost lexemes: { Self → List Lexeme };
 
     fn write(&self, writer: &mut Writer) -> Result<(), AllocError>
-        ensures { OnOk result (writer.new ≡ written writer.old (lexemes self.now)) };
+        ensures { Writes result writer.old writer.new (lexemes self.now) };
 }
 
 impl Entry for Lit {
@@ -71,7 +70,7 @@ impl Entry for Column {
 }
 
 fn column_kind(writer: &mut Writer, kind: schema_types::Kind) -> Result<(), AllocError>
-    ensures { OnOk result (writer.new ≡ written writer.old (print.column_kind kind)) }
+    ensures { Writes result writer.old writer.new (print.column_kind kind) }
 {
     match kind {
         schema_types::Kind::Int => writer.word(Kind::Int),
@@ -87,7 +86,7 @@ fn column_kind(writer: &mut Writer, kind: schema_types::Kind) -> Result<(), Allo
 
 /// Writes the word, but in front of the first part.
 pub(crate) fn separate(writer: &mut Writer, kind: Kind, at: usize) -> Result<(), AllocError>
-    ensures { OnOk result (writer.new ≡ written writer.old (separator kind at)) }
+    ensures { Writes result writer.old writer.new (separator kind at) }
 {
     if at == 0 {
         return Ok(());
@@ -97,8 +96,7 @@ pub(crate) fn separate(writer: &mut Writer, kind: Kind, at: usize) -> Result<(),
 
 /// Writes a list.
 pub(crate) fn listed<T: Entry>(writer: &mut Writer, entries: &[T]) -> Result<(), AllocError>
-    ensures { OnOk result (writer.new ≡ written writer.old
-        (print.listed kinds.Comma T.lexemes entries.now)) }
+    ensures { Writes result writer.old writer.new (print.listed kinds.Comma T.lexemes entries.now) }
 {
     for (at, entry) in entries.iter().enumerate() {
         separate(writer, Kind::Comma, at)?;

@@ -1,26 +1,26 @@
-//! Package queries, and the conditions and goals in them.
-ghost use Rattle.std.specs.Prelude.{◌≡◌, ◌∷◌, [], if◌then◌else◌, OnOk};
+//! Package queries, and the constraints and goals in them.
+ghost use Rattle.std.specs.Prelude.{◌≡◌, ◌∷◌, [], if◌then◌else◌};
 ghost use Rattle.paql_lexer.specs.declared.vocabulary.Kind.TheVariants as kinds;
-ghost use Rattle.paql_grammar.specs.Spellings.{spelled, name, whole};
-ghost use Rattle.paql_grammar.specs.Print as print;
+ghost use Rattle.paql_printer.specs.Spellings.{spelled, name, whole};
+ghost use Rattle.paql_printer.specs.Print as print;
 ghost use Rattle.paql_ast.specs.declared.queries.Conjunct.TheVariants as conjuncts;
-ghost use Rattle.paql_printer.specs.Fronts.{written};
+ghost use Rattle.paql_printer.specs.Fronts.{Writes};
 ghost use Rattle.paql_printer.specs.Parts as parts;
 
 use crate::aggregates::sum;
+use crate::conditions::condition;
 use crate::leaves::{column, name, operator, signed, whole};
 use crate::lists::separate;
-use crate::predicates::predicate;
 use crate::writer::Writer;
 use paql_ast::aggregates::SumItem;
-use paql_ast::predicates::{CmpOp, ColumnName, Pred};
+use paql_ast::conditions::{CmpOp, ColumnName, Pred};
 use paql_ast::queries::{Conjunct, Goal, Method, Query};
 use paql_lexer::Kind;
 use pq_base::Scaled;
 use schema_types::Text;
 use std::alloc::AllocError;
 
-// ---- conditions
+// ---- constraints
 
 fn compared(
     writer: &mut Writer,
@@ -29,8 +29,8 @@ fn compared(
     op: CmpOp,
     right: &[SumItem],
 ) -> Result<(), AllocError>
-    ensures { OnOk result (writer.new ≡ written writer.old
-        (print.conjunct «package».now (conjuncts.Compare left.now op right.now))) }
+    ensures { Writes result writer.old writer.new
+        (print.conjunct «package».now (conjuncts.Compare left.now op right.now)) }
 {
     sum(writer, package, left)?;
     operator(writer, op)?;
@@ -39,7 +39,7 @@ fn compared(
 
 /// BETWEEN and its two ends.
 fn ends(writer: &mut Writer, low: Scaled, high: Scaled) -> Result<(), AllocError>
-    ensures { OnOk result (writer.new ≡ written writer.old (print.ends low high)) }
+    ensures { Writes result writer.old writer.new (print.ends low high) }
 {
     writer.word(Kind::Between)?;
     signed(writer, low)?;
@@ -48,7 +48,7 @@ fn ends(writer: &mut Writer, low: Scaled, high: Scaled) -> Result<(), AllocError
 }
 
 fn average(writer: &mut Writer, of: &ColumnName) -> Result<(), AllocError>
-    ensures { OnOk result (writer.new ≡ written writer.old (print.average of.now)) }
+    ensures { Writes result writer.old writer.new (print.average of.now) }
 {
     writer.word(Kind::Avg)?;
     writer.word(Kind::LeftParen)?;
@@ -57,7 +57,7 @@ fn average(writer: &mut Writer, of: &ColumnName) -> Result<(), AllocError>
 }
 
 fn conjunct(writer: &mut Writer, package: &Text, of: &Conjunct) -> Result<(), AllocError>
-    ensures { OnOk result (writer.new ≡ written writer.old (print.conjunct «package».now of.now)) }
+    ensures { Writes result writer.old writer.new (print.conjunct «package».now of.now) }
 {
     match of {
         Conjunct::Compare { left, op, right } => {
@@ -84,8 +84,8 @@ fn conjunct(writer: &mut Writer, package: &Text, of: &Conjunct) -> Result<(), Al
 }
 
 fn joined(writer: &mut Writer, package: &Text, conjuncts: &[Conjunct]) -> Result<(), AllocError>
-    ensures { OnOk result (writer.new ≡ written writer.old
-        (print.listed kinds.And (print.conjunct «package».now) conjuncts.now)) }
+    ensures { Writes result writer.old writer.new
+        (print.listed kinds.And (print.conjunct «package».now) conjuncts.now) }
 {
     for (at, of) in conjuncts.iter().enumerate() {
         separate(writer, Kind::And, at)?;
@@ -95,8 +95,7 @@ fn joined(writer: &mut Writer, package: &Text, conjuncts: &[Conjunct]) -> Result
 }
 
 fn such_that(writer: &mut Writer, package: &Text, conjuncts: &[Conjunct]) -> Result<(), AllocError>
-    ensures { OnOk result (writer.new ≡ written writer.old
-        (print.such_that «package».now conjuncts.now)) }
+    ensures { Writes result writer.old writer.new (print.such_that «package».now conjuncts.now) }
 {
     if conjuncts.is_empty() {
         return Ok(());
@@ -110,7 +109,7 @@ fn such_that(writer: &mut Writer, package: &Text, conjuncts: &[Conjunct]) -> Res
 
 /// `SELECT PACKAGE(of) AS package`
 fn head(writer: &mut Writer, of: &Text, package: &Text) -> Result<(), AllocError>
-    ensures { OnOk result (writer.new ≡ written writer.old (print.head of.now «package».now)) }
+    ensures { Writes result writer.old writer.new (print.head of.now «package».now) }
 {
     writer.word(Kind::Select)?;
     writer.word(Kind::Package)?;
@@ -122,7 +121,7 @@ fn head(writer: &mut Writer, of: &Text, package: &Text) -> Result<(), AllocError
 }
 
 fn alias(writer: &mut Writer, alias: &Option<Text>) -> Result<(), AllocError>
-    ensures { OnOk result (writer.new ≡ written writer.old (print.optional parts.named alias.now)) }
+    ensures { Writes result writer.old writer.new (print.optional parts.named alias.now) }
 {
     match alias {
         Some(word) => name(writer, word),
@@ -131,8 +130,9 @@ fn alias(writer: &mut Writer, alias: &Option<Text>) -> Result<(), AllocError>
 }
 
 fn version(writer: &mut Writer, version: Option<u64>) -> Result<(), AllocError>
-    ensures { OnOk result (writer.new ≡ written writer.old (print.optional
-        (λ number. print.behind kinds.At (print.behind kinds.Version (whole number ∷ []))) version)) }
+    ensures { Writes result writer.old writer.new
+        (print.optional (λ number. print.behind kinds.At
+        (print.behind kinds.Version (whole number ∷ []))) version) }
 {
     match version {
         Some(number) => {
@@ -146,8 +146,8 @@ fn version(writer: &mut Writer, version: Option<u64>) -> Result<(), AllocError>
 
 /// A word and a number, where there is one.
 fn counted(writer: &mut Writer, word: Kind, count: Option<u64>) -> Result<(), AllocError>
-    ensures { OnOk result (writer.new ≡ written writer.old
-        (print.optional (λ number. print.behind word (whole number ∷ [])) count)) }
+    ensures { Writes result writer.old writer.new
+        (print.optional (λ number. print.behind word (whole number ∷ [])) count) }
 {
     match count {
         Some(number) => {
@@ -159,8 +159,8 @@ fn counted(writer: &mut Writer, word: Kind, count: Option<u64>) -> Result<(), Al
 }
 
 fn relation(writer: &mut Writer, query: &Query) -> Result<(), AllocError>
-    ensures { OnOk result (writer.new ≡ written writer.old
-        (print.relation query.now.table query.now.alias query.now.version query.now.repeat)) }
+    ensures { Writes result writer.old writer.new
+        (print.relation query.now.table query.now.alias query.now.version query.now.repeat) }
 {
     writer.word(Kind::From)?;
     name(writer, &query.table)?;
@@ -169,22 +169,22 @@ fn relation(writer: &mut Writer, query: &Query) -> Result<(), AllocError>
     counted(writer, Kind::Repeat, query.repeat)
 }
 
-/// WHERE and a predicate, where there is one.
+/// WHERE and a condition, where there is one.
 pub(crate) fn filter(writer: &mut Writer, filter: &Option<Pred>) -> Result<(), AllocError>
-    ensures { OnOk result (writer.new ≡ written writer.old (print.filter filter.now)) }
+    ensures { Writes result writer.old writer.new (print.filter filter.now) }
 {
     match filter {
         Some(of) => {
             writer.word(Kind::Where)?;
-            predicate(writer, of)
+            condition(writer, of)
         }
         None => Ok(()),
     }
 }
 
 fn goal(writer: &mut Writer, package: &Text, goal: &Option<Goal>) -> Result<(), AllocError>
-    ensures { OnOk result (writer.new ≡ written writer.old
-        (print.optional (print.goal «package».now) goal.now)) }
+    ensures { Writes result writer.old writer.new
+        (print.optional (print.goal «package».now) goal.now) }
 {
     match goal {
         Some(of) => best(writer, package, of),
@@ -193,7 +193,7 @@ fn goal(writer: &mut Writer, package: &Text, goal: &Option<Goal>) -> Result<(), 
 }
 
 fn best(writer: &mut Writer, package: &Text, of: &Goal) -> Result<(), AllocError>
-    ensures { OnOk result (writer.new ≡ written writer.old (print.goal «package».now of.now)) }
+    ensures { Writes result writer.old writer.new (print.goal «package».now of.now) }
 {
     writer.word(goal_kind(of.maximize))?;
     sum(writer, package, of.parts.as_slice())
@@ -219,8 +219,9 @@ fn method_kind(method: Method) -> Kind
 }
 
 fn method(writer: &mut Writer, method: Option<Method>) -> Result<(), AllocError>
-    ensures { OnOk result (writer.new ≡ written writer.old (print.optional
-        (λ word. print.behind kinds.Using (spelled (print.method word) ∷ [])) method)) }
+    ensures { Writes result writer.old writer.new
+        (print.optional (λ word. print.behind kinds.Using (spelled (print.method word) ∷ []))
+        method) }
 {
     match method {
         Some(word) => {
@@ -232,8 +233,8 @@ fn method(writer: &mut Writer, method: Option<Method>) -> Result<(), AllocError>
 }
 
 fn ending(writer: &mut Writer, query: &Query) -> Result<(), AllocError>
-    ensures { OnOk result (writer.new ≡ written writer.old
-        (print.ending query.now.«package» query.now.goal query.now.method query.now.budget)) }
+    ensures { Writes result writer.old writer.new
+        (print.ending query.now.«package» query.now.goal query.now.method query.now.budget) }
 {
     goal(writer, &query.package, &query.goal)?;
     method(writer, query.method)?;
@@ -242,7 +243,7 @@ fn ending(writer: &mut Writer, query: &Query) -> Result<(), AllocError>
 
 /// A package query.
 pub(crate) fn query(writer: &mut Writer, query: &Query) -> Result<(), AllocError>
-    ensures { OnOk result (writer.new ≡ written writer.old (print.query query.now)) }
+    ensures { Writes result writer.old writer.new (print.query query.now) }
 {
     head(writer, &query.of, &query.package)?;
     relation(writer, query)?;

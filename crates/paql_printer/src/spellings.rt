@@ -1,6 +1,6 @@
 //! How keywords and signs are spelled.
 ghost use Rattle.std.specs.Prelude.{◌≡◌, map};
-ghost use Rattle.paql_grammar.specs.Spellings as spellings;
+ghost use Rattle.paql_printer.specs.Spellings as spellings;
 
 use paql_lexer::{KEYWORDS, Kind};
 

@@ -1,16 +1,16 @@
 //! All statements.
-ghost use Rattle.std.specs.Prelude.{◌≡◌, ℕ, List, IfOk, OnOk};
+ghost use Rattle.std.specs.Prelude.{◌≡◌, ℕ, List, IfOk};
 ghost use Rattle.paql_ast.specs.declared.statements.Statement.TheVariants as statements;
-ghost use Rattle.paql_grammar.specs.Print as print;
+ghost use Rattle.paql_printer.specs.Print as print;
 ghost use Rattle.paql_grammar.specs.Texts.{IsStatement};
-ghost use Rattle.paql_canonical.specs.Texts.{canonical_text};
-ghost use Rattle.paql_printer.specs.Fronts.{written};
+ghost use Rattle.paql_printer.specs.Texts.{canonical_text};
+ghost use Rattle.paql_printer.specs.Fronts.{Writes};
 
 use crate::leaves::{name, number, whole};
 use crate::lists::listed;
 use crate::queries::{filter, query};
 use crate::writer::Writer;
-use paql_ast::predicates::Pred;
+use paql_ast::conditions::Pred;
 use paql_ast::statements::Statement;
 use paql_lexer::Kind;
 use pq_base::Scaled;
@@ -19,8 +19,8 @@ use sqlite_items::Items;
 use std::alloc::{AllocError, Global};
 
 fn create(writer: &mut Writer, table: &Text, columns: &[Column]) -> Result<(), AllocError>
-    ensures { OnOk result (writer.new ≡ written writer.old
-        (print.statement (statements.Create table.now columns.now))) }
+    ensures { Writes result writer.old writer.new
+        (print.statement (statements.Create table.now columns.now)) }
 {
     writer.word(Kind::Create)?;
     writer.word(Kind::Table)?;
@@ -31,8 +31,8 @@ fn create(writer: &mut Writer, table: &Text, columns: &[Column]) -> Result<(), A
 }
 
 fn insert(writer: &mut Writer, table: &Text, rows: &[Items<Lit>]) -> Result<(), AllocError>
-    ensures { OnOk result (writer.new ≡ written writer.old
-        (print.statement (statements.Insert table.now rows.now))) }
+    ensures { Writes result writer.old writer.new
+        (print.statement (statements.Insert table.now rows.now)) }
 {
     writer.word(Kind::Insert)?;
     writer.word(Kind::Into)?;
@@ -42,8 +42,8 @@ fn insert(writer: &mut Writer, table: &Text, rows: &[Items<Lit>]) -> Result<(), 
 }
 
 fn load(writer: &mut Writer, table: &Text, bytes: u64) -> Result<(), AllocError>
-    ensures { OnOk result (writer.new ≡ written writer.old
-        (print.statement (statements.Load table.now bytes))) }
+    ensures { Writes result writer.old writer.new
+        (print.statement (statements.Load table.now bytes)) }
 {
     writer.word(Kind::Load)?;
     name(writer, table)?;
@@ -57,8 +57,8 @@ fn update(
     sets: &[(Text, Lit)],
     of: &Option<Pred>,
 ) -> Result<(), AllocError>
-    ensures { OnOk result (writer.new ≡ written writer.old
-        (print.statement (statements.Update table.now sets.now of.now))) }
+    ensures { Writes result writer.old writer.new
+        (print.statement (statements.Update table.now sets.now of.now)) }
 {
     writer.word(Kind::Update)?;
     name(writer, table)?;
@@ -68,8 +68,8 @@ fn update(
 }
 
 fn delete(writer: &mut Writer, table: &Text, of: &Option<Pred>) -> Result<(), AllocError>
-    ensures { OnOk result (writer.new ≡ written writer.old
-        (print.statement (statements.Delete table.now of.now))) }
+    ensures { Writes result writer.old writer.new
+        (print.statement (statements.Delete table.now of.now)) }
 {
     writer.word(Kind::Delete)?;
     writer.word(Kind::From)?;
@@ -84,8 +84,8 @@ fn partition(
     size: u64,
     radius: Scaled,
 ) -> Result<(), AllocError>
-    ensures { OnOk result (writer.new ≡ written writer.old
-        (print.statement (statements.Partition table.now columns.now size radius))) }
+    ensures { Writes result writer.old writer.new
+        (print.statement (statements.Partition table.now columns.now size radius)) }
 {
     writer.word(Kind::Partition)?;
     name(writer, table)?;
@@ -100,8 +100,7 @@ fn partition(
 }
 
 fn vacuum(writer: &mut Writer, version: u64) -> Result<(), AllocError>
-    ensures { OnOk result (writer.new ≡ written writer.old
-        (print.statement (statements.Vacuum version))) }
+    ensures { Writes result writer.old writer.new (print.statement (statements.Vacuum version)) }
 {
     writer.word(Kind::Vacuum)?;
     whole(writer, version)
@@ -109,7 +108,7 @@ fn vacuum(writer: &mut Writer, version: u64) -> Result<(), AllocError>
 
 /// The lexemes of a statement.
 fn lexemes(writer: &mut Writer, statement: &Statement) -> Result<(), AllocError>
-    ensures { OnOk result (writer.new ≡ written writer.old (print.statement statement.now)) }
+    ensures { Writes result writer.old writer.new (print.statement statement.now) }
 {
     match statement {
         Statement::Create { table, columns } => create(writer, table, columns.as_slice()),
@@ -136,14 +135,17 @@ fn lexemes(writer: &mut Writer, statement: &Statement) -> Result<(), AllocError>
     }
 }
 
-/// The canonical text of a statement. Keywords stand in upper case, and a name stands in double quotes where
-/// it would be a keyword. One space stands between two lexemes, but none beside a point, behind `(`, in front
-/// of `)` and `,`, between PACKAGE, COUNT, SUM, AVG or DEC and its bracket, and behind a minus that is a sign.
+/// The canonical text of a statement. Keywords stand in upper case, and a name stands in double
+/// quotes where it would be a keyword. One space stands between two lexemes, but none beside a
+/// point, behind `(`, in front of `)` and `,`, between PACKAGE, COUNT, SUM, AVG or DEC and its
+/// bracket, and behind a minus that is a sign.
 pub fn print(alloc: Global, statement: &Statement) -> Result<Vec<u8>, AllocError>
     ensures canonical { IfOk result (λ text. text.items ≡ canonical_text statement.now) }
 
-    // Where some text is one of the statement, so is this, and of no other statement: parsing it gives the statement.
-    ensures read { IfOk result (λ text. (source : List ℕ) → IsStatement source statement.now → IsStatement text.items statement.now) }
+    // Where some text is one of the statement, so is this, and of no other statement: parsing it
+    // gives the statement.
+    ensures read { IfOk result (λ text. (source : List ℕ) → IsStatement source statement.now
+        → IsStatement text.items statement.now) }
 {
     let mut writer = Writer::new(alloc);
     lexemes(&mut writer, statement)?;

@@ -1,8 +1,8 @@
 //! The text that is being written: lexemes with the spaces of a canonical text between them.
 ghost use Rattle.std.specs.Prelude.{◌≡◌, OnOk};
-ghost use Rattle.paql_grammar.specs.Spacing as spacing;
-ghost use Rattle.paql_grammar.specs.Spellings.{spelled};
-ghost use Rattle.paql_printer.specs.Fronts.{of_kind, start, begun, more, put};
+ghost use Rattle.paql_printer.specs.Spacing as spacing;
+ghost use Rattle.paql_printer.specs.Spellings.{spelled};
+ghost use Rattle.paql_printer.specs.Fronts.{Writes, begun, more, of_kind, put, start};
 
 use crate::spellings::spelling;
 use paql_lexer::Kind;
@@ -108,7 +108,8 @@ impl Writer {
     /// Writes a lexeme.
     #[tactic(auto, unfolding(crate::specs::Fronts::put))]
     pub(crate) fn lexeme(&mut self, kind: Kind, bytes: &[u8]) -> Result<(), AllocError>
-        ensures { OnOk result (self.new ≡ put self.old (record { kind = kind; bytes = bytes.now })) }
+        ensures { OnOk result
+            (self.new ≡ put self.old (record { kind = kind; bytes = bytes.now })) }
     {
         self.begin(kind)?;
         self.append(bytes)

@@ -1,3 +1,4 @@
+-- Private: the adapters over std's readers and writers.
 -- What is inside an adapter: the reader or writer, and how many of its errors were counted.
 use Rattle.std.specs.Prelude.{ℕ}
 use Rattle.pq_base.specs.declared.adapters.ReadSource.{ReadSource}

@@ -1,4 +1,4 @@
--- Decimal numbers as text: a sign, whole digits and, behind a point, the digits of a fraction.
+-- Decimal numbers as text: a sign, whole digits and, after a point, the digits of a fraction.
 use Rattle.std.specs.Prelude.{◌≡◌, ℕ, ◌+◌, ◌-◌, ◌^◌, ◌<◌, ◌≤◌, ◌⊎◌, Bool, true, false, List, [], ◌∷◌, ◌++◌, length, take, drop, replicate, All, ℤ, pos, negsuc, neg_ℤ, Result, Ok, Err}
 use Rattle.std.specs.Char.{digit_value}
 use Rattle.std.specs.Str.Parse.{AllDigits, digits_value}
@@ -13,12 +13,12 @@ pub record Parts : Type 0 where
   pub whole : List ℕ
   pub fraction : List ℕ
 
--- The text is the number behind a sign: `-` where it is negative, and else `+` or nothing.
+-- The text is the number after a sign: `-` if it is negative, and else `+` or nothing.
 abbrev pub HasSign : Bool → List ℕ → List ℕ → Type 0
 HasSign true text number = text ≡ 45 ∷ number
 HasSign false text number = (text ≡ number) ⊎ (text ≡ 43 ∷ number)
 
--- A point and the digits behind it, or nothing where there are none.
+-- A point and the digits after it, or nothing if there are none.
 abbrev pub point_and : List ℕ → List ℕ
 point_and [] = []
 point_and (digit ∷ digits) = 46 ∷ (digit ∷ digits)
@@ -27,7 +27,7 @@ point_and (digit ∷ digits) = 46 ∷ (digit ∷ digits)
 abbrev pub unsigned_text : Parts → List ℕ
 unsigned_text parts = parts.whole ++ point_and parts.fraction
 
--- The text is a sign, at least one digit, and perhaps a point with at least one digit behind it.
+-- The text is a sign, at least one digit, and perhaps a point with at least one digit after it.
 pub record Spells (text : List ℕ) (parts : Parts) : Type 0 where
   pub signed : HasSign parts.minus text (unsigned_text parts)
   pub whole : AllDigits 10 parts.whole
@@ -38,12 +38,12 @@ pub record Spells (text : List ℕ) (parts : Parts) : Type 0 where
 abbrev pub OneReading : Type 0
 OneReading = (text : List ℕ) (one other : Parts) → Spells text one → Spells text other → one ≡ other
 
--- A digit stands first.
+-- A digit comes first.
 abbrev pub BeginsWithDigit : List ℕ → Type 0
 BeginsWithDigit [] = ⊥
 BeginsWithDigit (byte ∷ bytes) = digit_value byte < 10
 
--- The first so many digits, filled with zeros where there are fewer.
+-- The first so many digits, filled with zeros if there are fewer.
 abbrev pub filled : ℕ → List ℕ → List ℕ
 filled places digits = take places digits ++ replicate (places - length digits) 48
 
@@ -51,7 +51,7 @@ filled places digits = take places digits ++ replicate (places - length digits) 
 abbrev pub units_of : ℕ → Parts → ℕ
 units_of scale parts = digits_value 10 (parts.whole ++ filled scale parts.fraction)
 
--- Nothing but zeros stands behind the last place that the scale keeps.
+-- Only zeros come after the last place that the scale keeps.
 abbrev pub IsFine : ℕ → Parts → Type 0
 IsFine scale parts = All (λ byte. byte ≡ 48) (drop scale parts.fraction)
 
@@ -74,7 +74,7 @@ abbrev pub is_negative : ℤ → Bool
 is_negative (pos magnitude) = false
 is_negative (negsuc before) = true
 
--- The digits, with zeros in front so that more digits stand there than the scale has places.
+-- The digits, with zeros before them so that there are more digits than the scale has places.
 abbrev pub padded : ℕ → List ℕ → List ℕ
 padded scale digits = replicate (scale + 1 - length digits) 48 ++ digits
 
@@ -87,7 +87,7 @@ printed_parts value scale = let digits = padded scale (decimal (unsigned_abs val
       fraction = drop (length digits - scale) digits;
     }
 
--- The sign that is printed in front of a number.
+-- The sign that is printed before a number.
 abbrev pub sign_text : Bool → List ℕ
 sign_text true = 45 ∷ []
 sign_text false = []

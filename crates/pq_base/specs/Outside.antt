@@ -6,7 +6,7 @@ use Rattle.pq_base.specs.declared.outside.Pull.TheVariants as pulls
 use Rattle.pq_base.specs.declared.outside.Push.{Push}
 use Rattle.pq_base.specs.declared.outside.Push.TheVariants as pushes
 
--- A count of faults rose, or stood at the end of its type, where it stays.
+-- A count of faults rose, or it was at the greatest value of its type, where it stays.
 abbrev pub Rose : ℕ → ℕ → Type 0
 Rose before now = min (before + 1) (2 ^ 64 - 1) ≤ now
 
@@ -15,9 +15,11 @@ abbrev pub PullsAtMost : Pull → List ℕ → Type 0
 PullsAtMost (pulls.Got n) buf = n ≤ length buf
 PullsAtMost pulls.Failed buf = Unit {0}
 
--- `Got n` moves the first n known bytes into the buffer; none come into a buffer that has room only at the end.
+-- `Got n` moves the first n known bytes into the buffer. Into a buffer that has room none come only
+-- at the end.
 abbrev pub PullConsumes : Option (List ℕ) → Option (List ℕ) → Pull → List ℕ → Type 0
-PullConsumes old new (pulls.Got n) buf = Consumes old new (take n buf) × (n ≡ 0 → 0 < length buf → IsAtEnd new)
+PullConsumes old new (pulls.Got n) buf = Consumes old new (take n buf)
+    × (n ≡ 0 → 0 < length buf → IsAtEnd new)
 PullConsumes old new pulls.Failed buf = Keeps old new
 
 -- `Took n` has at least one byte of a piece that has any.
@@ -30,12 +32,22 @@ abbrev pub PushAppends : Option (List ℕ) → Option (List ℕ) → Push → Li
 PushAppends old new (pushes.Took n) piece = Appends old new (take n piece)
 PushAppends old new pushes.Failed piece = Keeps old new
 
--- The count never falls, and a source fails only where it rose.
+-- A read that fails makes the count rise, and any other leaves it as it was.
+abbrev pub PullCounts : ℕ → ℕ → Pull → Type 0
+PullCounts before now (pulls.Got n) = now ≡ before
+PullCounts before now pulls.Failed = Rose before now
+
+-- The count never falls, and it rises only at a read that fails.
 pub record PullHasCause (before now : ℕ) (result : Pull) : Type 0 where
   pub later : before ≤ now
-  pub failed : result ≡ pulls.Failed → Rose before now
+  pub counts : PullCounts before now result
 
--- The count never falls, and a sink fails only where it rose.
+-- A write that fails makes the count rise, and any other leaves it as it was.
+abbrev pub PushCounts : ℕ → ℕ → Push → Type 0
+PushCounts before now (pushes.Took n) = now ≡ before
+PushCounts before now pushes.Failed = Rose before now
+
+-- The count never falls, and it rises only at a write that fails.
 pub record PushHasCause (before now : ℕ) (result : Push) : Type 0 where
   pub later : before ≤ now
-  pub failed : result ≡ pushes.Failed → Rose before now
+  pub counts : PushCounts before now result

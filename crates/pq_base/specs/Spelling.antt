@@ -1,3 +1,4 @@
+-- Private: `src/decimal.rt`: a spelling that borrows its text.
 -- The parts that a borrowed spelling holds.
 use Rattle.pq_base.specs.Decimal.{Parts}
 use Rattle.pq_base.specs.declared.decimal.Spelling.{Spelling}

@@ -1,5 +1,5 @@
 //! The real outside: any reader of std as a source, any writer as a sink. What they read and write
-//! is known only where std's trait tells it, which files, sockets and terminals don't.
+//! is known only if std's trait tells it, which files, sockets and terminals don't.
 ghost use Rattle.std.specs.Prelude.{◌≡◌};
 ghost use Rattle.pq_base.specs.Adapters.{reader_of, read_errors, writer_of, write_errors};
 
@@ -79,3 +79,6 @@ pub struct OpenGate;
 impl Gate for OpenGate {
     fn at(&self, _worker: u32, _point: GatePoint) {}
 }
+
+#[cfg(test)]
+mod tests;

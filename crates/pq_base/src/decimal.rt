@@ -16,7 +16,7 @@ pub enum NumFault {
     /// The text spells no number.
     #[error("this is not a number")]
     NotANumber,
-    /// A digit behind the last place that the scale keeps isn't zero.
+    /// A digit after the last place that the scale keeps isn't zero.
     #[error("the number has more places behind the point than are kept")]
     TooFine,
     /// The units are more than 1,000,000,000,000, with either sign.
@@ -35,7 +35,7 @@ struct Spelling<'a> {
     fraction: &'a [u8],
 }
 
-/// The sign in front of a number, and what stands behind it.
+/// The sign before a number, and what comes after it.
 fn split_sign(text: &[u8]) -> (bool, &[u8])
     ensures sign { HasSign result.0 text.now result.1.now }
     ensures one { (minus : Bool) (number : List ℕ) → HasSign minus text.now number
@@ -48,7 +48,7 @@ fn split_sign(text: &[u8]) -> (bool, &[u8])
     }
 }
 
-/// The digits at the front of a text, and what stands behind them.
+/// The digits at the beginning of a text, and what comes after them.
 pub fn split_digits(text: &[u8]) -> (&[u8], &[u8])
     ensures whole { text.now ≡ result.0.now ++ result.1.now }
     ensures digits { AllDigits 10 result.0.now }
@@ -62,7 +62,7 @@ pub fn split_digits(text: &[u8]) -> (&[u8], &[u8])
     text.split_at(text.len())
 }
 
-/// What stands behind the point at the front of a text, where there is one.
+/// What comes after the point at the beginning of a text, if there is one.
 fn strip_point(text: &[u8]) -> Option<&[u8]>
     ensures { MatchOption result ((places : List ℕ) → text.now ≢ 46 ∷ places)
         (λ places. text.now ≡ 46 ∷ places.now) }
@@ -73,7 +73,7 @@ fn strip_point(text: &[u8]) -> Option<&[u8]>
     }
 }
 
-/// The digits of the fraction, where the text is a point and digits, or nothing.
+/// The digits of the fraction, if the text is a point and digits, or nothing.
 fn read_fraction(text: &[u8]) -> Option<&[u8]>
     ensures { MatchOption result
         ((digits : List ℕ) → AllDigits 10 digits → text.now ≢ point_and digits)
@@ -95,7 +95,7 @@ fn read_fraction(text: &[u8]) -> Option<&[u8]>
     Some(digits)
 }
 
-/// The parts that spell the text, where there are such.
+/// The parts that spell the text, if there are any.
 fn read_parts(text: &[u8]) -> Option<Spelling<'_>>
     ensures { MatchOption result ((parts : Parts) → ¬ Spells text.now parts)
         (λ spelling. Spells text.now (parts_of spelling)) }
@@ -140,7 +140,7 @@ pub(crate) fn times_tens(start: u64, tens: u8) -> u64
     number
 }
 
-/// Whether nothing but zeros stands behind the scale's last place.
+/// Whether only zeros come after the scale's last place.
 fn is_fine(fraction: &[u8], scale: u8) -> bool
     ensures { IsTrue result ↔ All (λ byte. byte ≡ 48) (drop scale fraction.now) }
 {
@@ -170,7 +170,7 @@ pub(crate) fn with_sign(minus: bool, magnitude: u64) -> i64
 }
 
 /// Reads a number in whole units of `10^-scale`: a sign `+` or `-` or none, at least one digit,
-/// and perhaps a point with at least one digit behind it. The first fault in the order of
+/// and perhaps a point with at least one digit after it. The first fault in the order of
 /// `NumFault` is told.
 pub fn read_decimal(text: &str, scale: u8) -> Result<i64, NumFault>
     ensures { Reads text.now scale result }
@@ -214,7 +214,7 @@ fn push_zeros(text: &mut String, count: usize) -> Result<(), AllocError>
     Ok(())
 }
 
-/// Writes digits with a point in front of the last `scale` of them.
+/// Writes digits with a point before the last `scale` of them.
 fn push_pointed(text: &mut String, digits: &str, scale: u8) -> Result<(), AllocError>
     requires ascii { All (λ byte. byte < 128) digits.now }
     requires enough { scale < length digits.now }
@@ -232,7 +232,7 @@ fn push_pointed(text: &mut String, digits: &str, scale: u8) -> Result<(), AllocE
     Ok(())
 }
 
-/// The digits of a magnitude, with zeros in front so that there are more than `scale`.
+/// The digits of a magnitude, with zeros before them so that there are more than `scale`.
 fn padded_digits(alloc: Global, magnitude: u128, scale: u8) -> Result<String, AllocError>
     ensures text { IfOk result (λ text. string_bytes text ≡ padded scale (decimal magnitude)) }
     ensures ascii { IfOk result (λ text. All (λ byte. byte < 128) (string_bytes text)) }
@@ -248,7 +248,7 @@ fn padded_digits(alloc: Global, magnitude: u128, scale: u8) -> Result<String, Al
 }
 
 /// Prints so many units of `10^-scale`: the sign `-` of a negative number, the whole part with no
-/// zero in front of another digit, and for a scale above 0 a point and just `scale` digits.
+/// zero before another digit, and for a scale above 0 a point and just `scale` digits.
 pub fn print_decimal(alloc: Global, value: i128, scale: u8) -> Result<String, AllocError>
     ensures { IfOk result (λ text. string_bytes text ≡ decimal_text value scale) }
 {

@@ -1,4 +1,4 @@
-//! What every other crate stands on: the outside as traits, and numbers as text.
+//! What every other crate uses: the outside as traits, and numbers as text.
 #![tactic(auto)]
 
 mod adapters;

@@ -1,5 +1,5 @@
 //! A source and a sink over memory that fail at chosen calls, for tests.
-ghost use Rattle.std.specs.Prelude.{◌≡◌, ◌+◌, ◌≤◌, [], ◌++◌, length, take, drop, max, Some, vec_len, OnOk, OnErr};
+ghost use Rattle.std.specs.Prelude.{◌≡◌, ◌+◌, ◌≤◌, [], ◌++◌, length, take, drop, max, false, Some, vec_len, OnOk, OnErr};
 ghost use Rattle.pq_base.specs.Outside.{PullsAtMost, PullConsumes, PullHasCause, PushesSome, PushAppends, PushHasCause};
 ghost use Rattle.pq_base.specs.Memory.{IsSourceCall, IsSinkCall};
 
@@ -81,7 +81,7 @@ impl Source for MemSource {
     }
 }
 
-// Copies `count` bytes from the place `at` to the front of the buffer.
+// Copies `count` bytes from the place `at` to the beginning of the buffer.
 pub(crate) fn give(from: &[u8], at: usize, buf: &mut [u8], count: usize)
     requires from { at + count ≤ length from.now }
     requires room { count ≤ length buf.old }
@@ -97,6 +97,7 @@ pub struct MemSink {
     fail: Vec<u64>,
     calls: u64,
     faults: u64,
+    starved: bool,
 }
 
 impl Model for MemSink {
@@ -109,6 +110,7 @@ impl Model for MemSink {
       fail = s.fail.items;
       calls = s.calls;
       faults = s.faults;
+      starved = s.starved;
     } };
 }
 
@@ -116,13 +118,20 @@ impl MemSink {
     /// A sink with no bytes. The calls with a number in `fail`, counted from 1, fail, and so does
     /// one that finds no memory.
     pub fn new(alloc: Global, fail: Vec<u64>) -> Self
-        ensures { result ≡ record { written = []; fail = fail.items; calls = 0; faults = 0 } }
+        ensures { result ≡ record {
+          written = [];
+          fail = fail.items;
+          calls = 0;
+          faults = 0;
+          starved = false;
+        } }
     {
         MemSink {
             written: Vec::new(alloc),
             fail,
             calls: 0,
             faults: 0,
+            starved: false,
         }
     }
 
@@ -131,6 +140,13 @@ impl MemSink {
         ensures { result.now ≡ self.now.written }
     {
         &self.written
+    }
+
+    /// Whether the last write found no memory, and failed for that alone.
+    pub fn is_starved(&self) -> bool
+        ensures { result ≡ self.now.starved }
+    {
+        self.starved
     }
 }
 
@@ -141,12 +157,19 @@ impl Sink for MemSink {
 
     fn write(&mut self, piece: &[u8]) -> Push
         ensures bound { PushesSome result piece.now }
-        ensures bytes { PushAppends (Some self.old.written) (Some self.new.written) result piece.now }
+        ensures bytes { PushAppends (Some self.old.written) (Some self.new.written) result
+            piece.now }
         ensures cause { PushHasCause self.old.faults self.new.faults result }
         ensures call { IsSinkCall self.old self.new result piece.now }
     {
         self.calls = self.calls.saturating_add(1);
-        if self.fail.contains(&self.calls) || self.written.extend_from_slice(piece).is_err() {
+        self.starved = false;
+        if self.fail.contains(&self.calls) {
+            self.faults = self.faults.saturating_add(1);
+            return Push::Failed;
+        }
+        if self.written.extend_from_slice(piece).is_err() {
+            self.starved = true;
             self.faults = self.faults.saturating_add(1);
             return Push::Failed;
         }

@@ -5,7 +5,7 @@ ghost use Rattle.pq_base.specs.Outside.{PullsAtMost, PullConsumes, PullHasCause,
 /// What a read of a source gave.
 #[derive(Clone, Copy, Debug, PartialEq, Eq)]
 pub enum Pull {
-    /// So many bytes at the front of the buffer; 0 in a buffer with room is the end of the input.
+    /// So many bytes at the beginning of the buffer; 0 in a buffer with room is the end of the input.
     Got(usize),
     /// No byte, and one more fault is counted.
     Failed,
@@ -13,7 +13,7 @@ pub enum Pull {
 
 /// Where a program reads its input.
 pub trait Source {
-    /// The bytes that are left, where the source tells them.
+    /// The bytes that are left, if the source tells them.
     ghost left: { Self → Option (List ℕ) };
 
     /// How often it has failed, a number that never falls.
@@ -29,7 +29,7 @@ pub trait Source {
 /// What a write to a sink took.
 #[derive(Clone, Copy, Debug, PartialEq, Eq)]
 pub enum Push {
-    /// So many bytes from the front of the piece, at least one where it has any.
+    /// So many of the first bytes of the piece, at least one if it has any.
     Took(usize),
     /// No byte, and one more fault is counted.
     Failed,
@@ -37,13 +37,13 @@ pub enum Push {
 
 /// Where a program writes its output.
 pub trait Sink {
-    /// The bytes that were written, where the sink tells them.
+    /// The bytes that were written, if the sink tells them.
     ghost written: { Self → Option (List ℕ) };
 
     /// How often it has failed, a number that never falls.
     ghost faults: { Self → ℕ };
 
-    /// Takes bytes from the front of the piece.
+    /// Takes some of the first bytes of the piece.
     fn write(&mut self, piece: &[u8]) -> Push
         ensures bound { PushesSome result piece.now }
         ensures bytes { PushAppends (written self.old) (written self.new) result piece.now }

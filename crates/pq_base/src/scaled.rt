@@ -11,7 +11,7 @@ use crate::decimal::{MOST_UNITS, NumFault, times_tens, with_sign};
 pub struct Scaled {
     /// All digits, with the sign.
     pub mant: i128,
-    /// How many of the digits stand behind the point.
+    /// How many of the digits come after the point.
     pub scale: u8,
     pub ghost small: { unsigned_abs mant < 10 ^ 30 },
     pub ghost shallow: { scale ≤ 30 },
@@ -19,7 +19,7 @@ pub struct Scaled {
 }
 
 impl Scaled {
-    /// The number with these digits, of which the last isn't a zero behind the point.
+    /// The number with these digits, of which the last isn't a zero after the point.
     pub fn new(mant: i128, scale: u8) -> Self
         requires small { unsigned_abs mant < 10 ^ 30 }
         requires shallow { scale ≤ 30 }
@@ -30,7 +30,7 @@ impl Scaled {
         Scaled { mant, scale }
     }
 
-    /// The number with these digits, whose zeros at the end behind the point are left out.
+    /// The number with these digits, whose zeros at the end after the point are left out.
     pub fn of(mant: i128, scale: u8) -> Self
         requires small { unsigned_abs mant < 10 ^ 30 }
         requires shallow { scale ≤ 30 }
@@ -43,8 +43,8 @@ impl Scaled {
         }
     }
 
-    /// The number in whole units of `10^-scale`: too fine where it is no whole number of them, and
-    /// else out of range where it is more than 1,000,000,000,000 of them with either sign.
+    /// The number in whole units of `10^-scale`: too fine if it is no whole number of them, and
+    /// else out of range if it is more than 1,000,000,000,000 of them with either sign.
     pub fn units(&self, scale: u8) -> Result<i64, NumFault>
         ensures { GivesUnits self.now.mant self.now.scale scale result }
     {
@@ -59,7 +59,7 @@ impl Scaled {
     }
 }
 
-/// The number with so many digits behind the point, without the zeros at the end.
+/// The number with so many digits after the point, without the zeros at the end.
 fn without_zeros(magnitude: u128, scale: u8) -> (u128, u8)
     ensures same { result.0 * 10 ^ scale ≡ magnitude * 10 ^ result.1 }
     ensures smaller { result.0 ≤ magnitude }
@@ -95,7 +95,7 @@ fn units_with_sign_of(number: i128, magnitude: u64) -> i64
     with_sign(number < 0, magnitude)
 }
 
-/// The magnitude of a number, or one above the most units where it is more.
+/// The magnitude of a number, or one above the most units if it is more.
 fn capped_magnitude(number: i128) -> u64
     ensures { result ≡ min (unsigned_abs number) (10 ^ 12 + 1) }
 {

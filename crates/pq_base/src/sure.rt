@@ -97,7 +97,8 @@ impl Sink for SureSink {
 
     fn write(&mut self, piece: &[u8]) -> Push
         ensures bound { PushesSome result piece.now }
-        ensures bytes { PushAppends (Some self.old.written) (Some self.new.written) result piece.now }
+        ensures bytes { PushAppends (Some self.old.written) (Some self.new.written) result
+            piece.now }
         ensures cause { PushHasCause self.old.faults self.new.faults result }
         ensures call { TakesIntoRoom self.old self.new result piece.now }
     {

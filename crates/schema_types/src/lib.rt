@@ -1,12 +1,12 @@
-//! The kinds of columns, schemas, the rows of tables and the literals of statements.
+//! The kinds of columns, and the literals of statements.
 #![tactic(auto)]
 
 use pq_base::Scaled;
 use sqlite_items::Items;
 
-/// A name or the content of a text: its bytes. Names and texts are compared and ordered by bytes, and a
-/// statement gives them as slices of its own bytes, so no contract has a use for UTF-8. Contracts see the
-/// list of the bytes.
+/// A name or the content of a text: its bytes. Names and texts are compared and ordered by bytes,
+/// and a statement gives them as slices of its own bytes, so no contract has a use for UTF-8.
+/// Contracts see the list of the bytes.
 pub type Text = Items<u8>;
 
 /// What the cells of a column are.
@@ -26,23 +26,6 @@ pub struct Column {
     pub name: Text,
     pub kind: Kind,
 }
-
-/// The columns of a table, from left to right.
-pub type Schema = Items<Column>;
-
-/// The schema of each table, beside the table's name.
-pub type Schemas = Items<(Text, Schema)>;
-
-/// What a row has in a column.
-#[derive(Debug, Drop)]
-pub enum Cell {
-    /// A number, in units of the column's scale.
-    Num(i64),
-    Text(Text),
-}
-
-/// A row of a table: a cell for each column.
-pub type Row = Items<Cell>;
 
 /// A literal of a statement: a number with its own scale, or a text.
 #[derive(Debug, Drop)]

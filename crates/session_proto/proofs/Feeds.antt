@@ -7,7 +7,6 @@ use Rattle.std.proofs.lemmas.Fmt.{decimal_by_steps}
 use Rattle.json.specs.Print.{escape_letter, escape_byte, escape, quoted}
 use Rattle.serde_json.specs.Data as json
 use Rattle.serde_json.specs.Written.{comma_if, compact_text, items_text, members_text}
-use Rattle.package_judge.specs.declared.packages.Pair.{Pair}
 use Rattle.session_proto.specs.Replies.{FieldData, num, text, pairs, flag, pair_data, pairs_data, field_data, members_data, FitsPair, FitsField, FitsMember}
 use Rattle.session_proto.proofs.FrameSteps.{AllByRecursion-append}
 
@@ -66,14 +65,14 @@ no_feed_comma : (later : Bool) → NoFeed (comma_if later)
 no_feed_comma true = (omega arith, tt)
 no_feed_comma false = tt
 
-no_feed_pair : (pair : Pair) → FitsPair pair → NoFeed (compact_text (pair_data pair))
+no_feed_pair : (pair : ℕ × ℕ) → FitsPair pair → NoFeed (compact_text (pair_data pair))
 no_feed_pair pair fits = (
   omega arith,
-  no_feed_append (decimal pair.id) (44 ∷ (decimal pair.count ++ 93 ∷ [])) (no_feed_decimal pair.id fits.0)
-      (omega arith, no_feed_append (decimal pair.count) (93 ∷ []) (no_feed_decimal pair.count fits.1) (omega arith, tt)),
+  no_feed_append (decimal pair.0) (44 ∷ (decimal pair.1 ++ 93 ∷ [])) (no_feed_decimal pair.0 fits.0)
+      (omega arith, no_feed_append (decimal pair.1) (93 ∷ []) (no_feed_decimal pair.1 fits.1) (omega arith, tt)),
 )
 
-no_feed_pairs : (later : Bool) (list : List Pair) → AllByRecursion FitsPair list → NoFeed (items_text later (pairs_data list))
+no_feed_pairs : (later : Bool) (list : List (ℕ × ℕ)) → AllByRecursion FitsPair list → NoFeed (items_text later (pairs_data list))
 no_feed_pairs later [] fits = (omega arith, tt)
 no_feed_pairs later (pair ∷ list) fits =
     no_feed_append (comma_if later) (compact_text (pair_data pair) ++ items_text true (pairs_data list)) (no_feed_comma later)

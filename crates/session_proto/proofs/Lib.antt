@@ -10,3 +10,4 @@ pub mod Feeds
 pub mod OneReply
 pub mod PieceSteps
 pub mod CleanEnds
+pub mod Blanks

@@ -10,16 +10,15 @@ use Rattle.json.proofs.Printed.Trees.{document-print}
 use Rattle.serde_json.specs.Data as json
 use Rattle.serde_json.specs.Written.{outline, items_outline, members_outline, compact_text}
 use Rattle.serde_json.proofs.Texts.{print-outline}
-use Rattle.package_judge.specs.declared.packages.Pair.{Pair}
 use Rattle.session_proto.specs.Replies.{FieldData, num, text, pairs, flag, ReplyData, pairs_data, field_data, members_data, FitsPair, FitsField, FitsMember, OneReply}
 use Rattle.session_proto.proofs.Feeds.{no_feed_object, line_once}
 
 -- ---- the text is read back as the value
 
-pairs_numbers : (list : List Pair) → AllByRecursion FitsPair list → ItemsHaveNumbers (items_outline (pairs_data list))
+pairs_numbers : (list : List (ℕ × ℕ)) → AllByRecursion FitsPair list → ItemsHaveNumbers (items_outline (pairs_data list))
 pairs_numbers [] fits = tt
 pairs_numbers (pair ∷ list) fits =
-    ((IsNumber-decimal pair.id fits.0.0, (IsNumber-decimal pair.count fits.0.1, tt)), pairs_numbers list fits.1)
+    ((IsNumber-decimal pair.0 fits.0.0, (IsNumber-decimal pair.1 fits.0.1, tt)), pairs_numbers list fits.1)
 
 field_numbers : (value : FieldData) → FitsField value → HasNumbers (outline (field_data value))
 field_numbers (num number) fits = IsNumber-decimal number fits
@@ -31,7 +30,7 @@ members_numbers : (fields : List (List ℕ × FieldData)) → AllByRecursion Fit
 members_numbers [] fits = tt
 members_numbers (first ∷ fields) fits = (field_numbers first.1 fits.0, members_numbers fields fits.1)
 
-pairs_shallow : (list : List Pair) → items_depth (items_outline (pairs_data list)) ≤ 1
+pairs_shallow : (list : List (ℕ × ℕ)) → items_depth (items_outline (pairs_data list)) ≤ 1
 pairs_shallow [] = omega arith
 pairs_shallow (pair ∷ list) = omega (arith, pairs_shallow list)
 
@@ -53,24 +52,24 @@ read_back fields fits =
 
 -- ---- one value is of one reply
 
-pair_same : (p q : Pair) → p.id ≡ q.id → p.count ≡ q.count → p ≡ q
+pair_same : (p q : ℕ × ℕ) → p.0 ≡ q.0 → p.1 ≡ q.1 → p ≡ q
 pair_same p q id count =
-    let middle : Pair = record { id = q.id; count = p.count } in
-    let one : p ≡ middle = ap (λ (n : ℕ). record { id = n; count = p.count }) id in
-    let two : middle ≡ q = ap (λ (n : ℕ). record { id = q.id; count = n }) count in
+    let middle : ℕ × ℕ = (q.0, p.1) in
+    let one : p ≡ middle = ap (λ (n : ℕ). (n, p.1)) id in
+    let two : middle ≡ q = ap (λ (n : ℕ). (q.0, n)) count in
     one ∙ two
 
-pairs_once : (one other : List Pair) → AllByRecursion FitsPair one → AllByRecursion FitsPair other → items_outline (pairs_data one) ≡ items_outline (pairs_data other) → one ≡ other
+pairs_once : (one other : List (ℕ × ℕ)) → AllByRecursion FitsPair one → AllByRecursion FitsPair other → items_outline (pairs_data one) ≡ items_outline (pairs_data other) → one ≡ other
 pairs_once [] [] fits fits' e = refl
 pairs_once [] (q ∷ other) fits fits' e = cc
 pairs_once (p ∷ one) [] fits fits' e = cc
 pairs_once (p ∷ one) (q ∷ other) fits fits' e =
-    let ids : decimal p.id ≡ decimal q.id = cc in
-    let counts : decimal p.count ≡ decimal q.count = cc in
+    let ids : decimal p.0 ≡ decimal q.0 = cc in
+    let counts : decimal p.1 ≡ decimal q.1 = cc in
     let rest : items_outline (pairs_data one) ≡ items_outline (pairs_data other) = cc in
-    let first = pair_same p q (decimal_injective p.id q.id fits.0.0 fits'.0.0 ids) (decimal_injective p.count q.count fits.0.1 fits'.0.1 counts) in
+    let first = pair_same p q (decimal_injective p.0 q.0 fits.0.0 fits'.0.0 ids) (decimal_injective p.1 q.1 fits.0.1 fits'.0.1 counts) in
     let later = pairs_once one other fits.1 fits'.1 rest in
-    ap (λ (r : Pair). r ∷ one) first ∙ ap (λ (rs : List Pair). q ∷ rs) later
+    ap (λ (r : ℕ × ℕ). r ∷ one) first ∙ ap (λ (rs : List (ℕ × ℕ)). q ∷ rs) later
 
 field_once : (one other : FieldData) → FitsField one → FitsField other → outline (field_data one) ≡ outline (field_data other) → one ≡ other
 field_once (num m) (num n) fits fits' e =
@@ -87,7 +86,7 @@ field_once (pairs list) (num n) fits fits' e = cc
 field_once (pairs list) (text words) fits fits' e = cc
 field_once (pairs list) (pairs others) fits fits' e =
     let items : items_outline (pairs_data list) ≡ items_outline (pairs_data others) = cc in
-    ap (λ (l : List Pair). pairs l) (pairs_once list others fits fits' items)
+    ap (λ (l : List (ℕ × ℕ)). pairs l) (pairs_once list others fits fits' items)
 field_once (pairs list) (flag truth) fits fits' e = cc
 field_once (flag truth) (num n) fits fits' e = cc
 field_once (flag truth) (text words) fits fits' e = cc

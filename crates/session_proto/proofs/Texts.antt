@@ -4,7 +4,6 @@ use Rattle.std.specs.Ordering.{match_ordering}
 use Rattle.serde_json.specs.Data as json
 use Rattle.serde_json.specs.View.{items_of}
 use Rattle.serde_json.specs.Written.{has_float, items_have_float, members_have_float}
-use Rattle.package_judge.specs.declared.packages.Pair.{Pair}
 use Rattle.session_proto.specs.Replies.{FieldData, num, text, pairs, flag, Ascends, pair_data, field_data, members_data}
 
 -- a least key goes to the front
@@ -17,7 +16,7 @@ put_front key value (next ∷ fields) ascends =
     (json.member next.0 (field_data next.1) (json.put key (field_data value) (members_data fields)))) ascends.0
 
 -- no float stands in a reply
-no_float_pairs : (list : List Pair) → items_have_float (items_of (map pair_data list)) ≡ false
+no_float_pairs : (list : List (ℕ × ℕ)) → items_have_float (items_of (map pair_data list)) ≡ false
 no_float_pairs [] = refl
 no_float_pairs (pair ∷ list) = no_float_pairs list
 

@@ -1,17 +1,17 @@
--- How bytes are cut into frames. A frame ends with the first `;` outside a text and outside a comment.
+-- How bytes are cut into frames. A frame ends with the first `;` outside a text and outside a
+-- comment.
 use Rattle.std.specs.Prelude.{◌≡◌, ℕ, ◌<◌, Bool, true, false, not, ◌||◌, ◌&&◌, ◌==◌, if◌then◌else◌, IsTrue, IsFalse, List, [], ◌∷◌, ◌++◌, length}
 use Rattle.std.specs.List.{AllByRecursion, flat_map}
+use Rattle.pq_base.specs.Gaps.{is_space}
 use Rattle.session_proto.specs.declared.scan.Place.{Place}
 use Rattle.session_proto.specs.declared.scan.Place.TheVariants as places
-
-abbrev pub is_space : ℕ → Bool
-is_space byte = byte == 9 || byte == 10 || byte == 13 || byte == 32
 
 -- Outside a text and a comment, a `'` begins a text, and a `-` leads to this place.
 abbrev pub opens : ℕ → Place → Place
 opens byte dash = if byte == 39 then places.Text else (if byte == 45 then dash else places.Plain)
 
--- Where the next byte stands. A text ends at the next `'`. A comment goes from `--` to the next line feed.
+-- The place of the next byte. A text ends at the next `'`. A comment goes from `--` to the next
+-- line feed.
 abbrev pub after : Place → ℕ → Place
 after places.Plain byte = opens byte places.Dash
 after places.Dash byte = opens byte places.Comment
@@ -38,7 +38,7 @@ shows places.Comment byte = false
 
 -- ---- bytes one after the other
 
--- where the byte behind these stands
+-- the place of the byte after these
 abbrev pub place_behind : Place → List ℕ → Place
 place_behind place [] = place
 place_behind place (byte ∷ bytes) = place_behind (after place byte) bytes
@@ -53,7 +53,7 @@ abbrev pub shows_token : Place → List ℕ → Bool
 shows_token place [] = false
 shows_token place (byte ∷ bytes) = shows place byte || shows_token (after place byte) bytes
 
--- behind a `-` that is no comment's
+-- after a `-` that is no comment's
 abbrev pub is_dash : Place → Bool
 is_dash places.Plain = false
 is_dash places.Dash = true
@@ -62,11 +62,13 @@ is_dash places.Comment = false
 
 -- only space and comments
 abbrev pub is_blank : List ℕ → Bool
-is_blank text = not (shows_token places.Plain text) && not (is_dash (place_behind places.Plain text))
+is_blank text =
+    not (shows_token places.Plain text) && not (is_dash (place_behind places.Plain text))
 
 -- ---- frames
 
--- The text of a frame: the `;` behind it is its first end, and with it the frame is no longer than allowed.
+-- The text of a frame: the `;` after it is its first end, and with it the frame is no longer than
+-- allowed.
 pub record IsFrame (text : List ℕ) : Type 0 where
   pub open_before : IsOpen places.Plain text
   pub ends_behind : IsTrue (is_code (place_behind places.Plain text))
@@ -84,7 +86,7 @@ IsBlankFrame text = IsFrame text × IsTrue (is_blank text)
 abbrev pub IsStatement : List ℕ → Type 0
 IsStatement text = IsFrame text × IsFalse (is_blank text)
 
--- frames without a token stand in front of the rest
+-- frames without a token come before the rest
 abbrev pub Skips : List ℕ → List ℕ → Type 0
 Skips bytes rest = (texts : List (List ℕ)) × AllByRecursion IsBlankFrame texts
     × (bytes ≡ flat_map closed texts ++ rest)

@@ -45,7 +45,7 @@ asked bytes = record { bytes = bytes; owed = if nat_le bytes 16777216 then 0 els
 abbrev pub awaiting : Input → ℕ → Input
 awaiting input bytes = settled (Some (asked bytes)) input.left
 
--- what stands behind a statement
+-- what comes after a statement
 pub data Content : Type 0 where
   absent : Content
   held : List ℕ → Content
@@ -95,7 +95,7 @@ abbrev pub IsPartial : Awaited → List ℕ → Type 0
 IsPartial body left = ((16777216 < body.bytes) × (0 < body.owed))
     ⊎ ((body.bytes ≤ 16777216) × (length left < body.bytes))
 
--- no whole frame stands there, and no whole body
+-- no whole frame is there, and no whole body
 abbrev pub Needs : Option Awaited → Input → Input → Type 0
 Needs None old new = (new.awaited ≡ None) × Skips old.left new.left
     × IsOpen places.Plain new.left × (length new.left < 1048576)

@@ -4,3 +4,7 @@ pub mod Scans
 pub mod Input
 pub mod Sessions
 pub mod Replies
+pub mod Answers
+pub mod Refusals
+pub mod Causes
+pub mod Blanks

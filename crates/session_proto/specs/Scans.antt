@@ -1,3 +1,4 @@
+-- Private: the scan of a framer over its bytes.
 -- What the state of a scan says of the bytes that it read.
 use Rattle.std.specs.Prelude.{◌≡◌, ℕ, ◌+◌, ◌≤◌, Bool, not, ◌||◌, ◌&&◌, IsTrue, List, length, take, drop, Some, slice_get}
 use Rattle.session_proto.specs.Frames.{after, shows, is_code, place_behind, IsOpen, shows_token, is_dash}

@@ -1,4 +1,4 @@
-//! A session's bytes, in pieces of any sizes, cut into statements and the bodies behind them.
+//! A session's bytes, in pieces of any sizes, cut into statements and the bodies after them.
 ghost use Rattle.std.specs.Prelude.{◌≡◌, ◌↔◌, ◌≤◌, [], ℕ, drop, min, length, vec_len, IsTrue, IfOk, OnOk, OnErr, IsErr, None};
 ghost use Rattle.session_proto.specs.Frames.{is_blank, Skips};
 ghost use Rattle.session_proto.specs.Input.{owed, paid, asked, fed, awaiting, given_of, IsNext};
@@ -10,7 +10,7 @@ use std::marker::Model;
 /// A larger body is thrown away as it comes, and is never held.
 pub const MAX_BODY: u64 = 16_777_216;
 
-/// A body that is to come behind a statement.
+/// A body that is to come after a statement.
 #[derive(Clone, Copy, Debug, PartialEq, Eq)]
 pub struct Awaited {
     /// How many bytes it has.
@@ -19,7 +19,7 @@ pub struct Awaited {
     pub owed: u64,
 }
 
-/// What stands behind a statement.
+/// What comes after a statement.
 #[derive(Debug, Drop)]
 pub enum Body {
     /// No body was asked for.
@@ -88,7 +88,7 @@ impl Framer {
         Ok(())
     }
 
-    /// A body of so many bytes stands behind the statement that was given last.
+    /// A body of so many bytes comes after the statement that was given last.
     pub fn want_body(&mut self, bytes: u64)
         ensures { self.new ≡ awaiting self.old bytes }
     {
@@ -100,12 +100,11 @@ impl Framer {
         self.awaited = paid(Some(body), count);
     }
 
-    /// The next statement or body. Frames without a token are passed over. It reads no byte of a frame twice,
-    /// however often it is called.
+    /// The next statement or body. Frames without a token are passed over. It reads no byte of a
+    /// frame twice, however often it is called, unless memory was out.
     pub fn next(&mut self, alloc: Global) -> Result<Framed, AllocError>
         ensures ok { IfOk result (λ framed. IsNext self.old (given_of framed) self.new) }
-        ensures skips { OnErr result (Skips self.old.left self.new.left) }
-        ensures awaited { OnErr result (self.new.awaited ≡ self.old.awaited) }
+        ensures err { OnErr result (self.new ≡ self.old) }
     {
         match self.awaited {
             Some(body) => self.next_body(alloc, body),
@@ -139,12 +138,11 @@ impl Framer {
     fn next_statement(&mut self, alloc: Global) -> Result<Framed, AllocError>
         requires { self.old.awaited ≡ None }
         ensures ok { IfOk result (λ framed. IsNext self.old (given_of framed) self.new) }
-        ensures skips { OnErr result (Skips self.old.left self.new.left) }
-        ensures awaited { OnErr result (self.new.awaited ≡ self.old.awaited) }
+        ensures err { OnErr result (self.new ≡ self.old) }
     {
         let (cursor, whole) = seek(self.cursor, &self.held);
-        self.cursor = cursor;
         if !whole {
+            self.cursor = cursor;
             if cursor.scan.passed == MAX_FRAME {
                 return Ok(Framed::TooLong);
             }
@@ -205,8 +203,8 @@ fn at_most(count: u64, most: usize) -> usize
     }
 }
 
-// Lets go of the bytes in front of a place, where they are at least as many as those behind it, and
-// says where the place is then. So each byte is moved as often as one is let go, or less.
+// Lets go of the bytes before a place, if they are at least as many as those after it, and says
+// where the place is then. So each byte is moved as often as one is let go, or less.
 fn let_go(held: &mut Vec<u8>, start: usize) -> usize
     requires { start ≤ vec_len held.old }
     ensures left { drop result held.new.items ≡ drop start held.old.items }

@@ -1,10 +1,12 @@
-//! Laws of frames and of replies. What a framer gives doesn't depend on how the bytes were cut into pieces.
+//! Laws of frames and of replies. What a framer gives doesn't depend on how the bytes were cut into
+//! pieces.
 ghost use Rattle.std.specs.Prelude.{ℕ, List};
+ghost use Rattle.session_proto.specs.Blanks.{BlankIsGap};
 ghost use Rattle.session_proto.specs.Pieces.{FramesAreOfPieces};
 ghost use Rattle.session_proto.specs.Replies.{OneReply};
 ghost use Rattle.session_proto.specs.Sessions.{OneFraming, StandsAtFirst, StandsFed, StandsAfterStatement, StandsAwaiting, StandsAfterBody, NeedsAtEnd, CleanAtEnd, TooLongAtEnd, OverlongStays, OneNext};
 
-/// Which statements have a body behind them. The laws hold whatever the rule is.
+/// Which statements have a body after them. The laws hold whatever the rule is.
 pub trait BodyRule {
     /// The statement of this text has a body of so many bytes.
     ghost Wants: { List ℕ → ℕ → Type 0 };
@@ -13,6 +15,11 @@ pub trait BodyRule {
 /// The text of a frame is texts, comments and single bytes, and each such text is one.
 pub fn frames_are_of_pieces()
     ensures { FramesAreOfPieces }
+{}
+
+/// A text is blank exactly if it is space and comments.
+pub fn blank_is_gap()
+    ensures { BlankIsGap }
 {}
 
 /// The bytes of a session have one list of frames and one rest.
@@ -25,12 +32,12 @@ pub fn one_next()
     ensures { OneNext }
 {}
 
-/// A new framer stands in front of the first frame.
+/// A new framer is before the first frame.
 pub fn stands_at_first<R: BodyRule>()
     ensures { StandsAtFirst R.Wants }
 {}
 
-/// Where a framer stands doesn't change when bytes come.
+/// How far a framer is doesn't change when bytes come.
 pub fn stands_fed<R: BodyRule>()
     ensures { StandsFed R.Wants }
 {}
@@ -40,7 +47,7 @@ pub fn stands_after_statement<R: BodyRule>()
     ensures { StandsAfterStatement R.Wants }
 {}
 
-/// A framer that is asked for a body stands in front of it.
+/// A framer that is asked for a body is before it.
 pub fn stands_awaiting<R: BodyRule>()
     ensures { StandsAwaiting R.Wants }
 {}
@@ -50,17 +57,17 @@ pub fn stands_after_body<R: BodyRule>()
     ensures { StandsAfterBody R.Wants }
 {}
 
-/// Where `next` needs more bytes, all frames of the bytes so far were given, and none is too long.
+/// If `next` needs more bytes, all frames of the bytes so far were given, and none is too long.
 pub fn needs_at_end<R: BodyRule>()
     ensures { NeedsAtEnd R.Wants }
 {}
 
-/// Where `next` needs more bytes, the framer is clean exactly where the bytes so far end clean.
+/// If `next` needs more bytes, the framer is clean exactly if the bytes so far end clean.
 pub fn clean_at_end<R: BodyRule>()
     ensures { CleanAtEnd R.Wants }
 {}
 
-/// Where a frame is too long, no bytes that come make a further frame.
+/// If a frame is too long, no bytes that come make a further frame.
 pub fn too_long_at_end<R: BodyRule>()
     ensures { TooLongAtEnd R.Wants }
 {}

@@ -1,4 +1,4 @@
-//! The names that stand in replies.
+//! The names in replies.
 
 /// Keys.
 pub mod keys {

@@ -3,16 +3,16 @@ ghost use Rattle.std.specs.Prelude.{◌≡◌, [], ◌∷◌, map, codes, IfOk, 
 ghost use Rattle.serde_json.specs.Data.{object};
 ghost use Rattle.serde_json.specs.Written.{compact_text};
 ghost use Rattle.serde_json.specs.View.{view, items_view, members_view};
-ghost use Rattle.session_proto.specs.Replies.{text, Ascends, put, refusal, field_of, member_of, field_data, pair_data, pairs_data, members_data, reply_text, IsPlaceOf};
+ghost use Rattle.session_proto.specs.Replies.{num, text, Ascends, put, field_of, member_of, field_data, pair_data, pairs_data, members_data, reply_text, IsPlaceOf};
 
 use crate::names::{keys, statuses};
-use package_judge::{Package, Pair};
+use package_judge::Package;
 use serde_json::{Map, Value, json};
 use std::alloc::{AllocError, Global};
 use std::cmp::Ordering;
 use std::marker::Model;
 
-/// What stands behind a key.
+/// What a key has.
 #[derive(Debug, Drop)]
 pub enum Field {
     Num(u64),
@@ -21,7 +21,7 @@ pub enum Field {
     Flag(bool),
 }
 
-/// A key with what stands behind it.
+/// A key with its value.
 #[derive(Debug, Drop)]
 pub struct Member {
     pub key: String,
@@ -48,7 +48,7 @@ impl Model for Reply {
 
 impl Reply {
     /// No fields, and no tail. It takes no memory.
-    pub fn new(alloc: Global) -> Reply
+    pub(crate) fn new(alloc: Global) -> Reply
         ensures { result ≡ record { members = []; tail = [] } }
     {
         Reply {
@@ -58,7 +58,7 @@ impl Reply {
     }
 
     /// One field more, at its place. It takes the place of a field with the same key.
-    pub fn with(self, alloc: Global, key: &str, value: Field) -> Result<Reply, AllocError>
+    pub(crate) fn with(self, alloc: Global, key: &str, value: Field) -> Result<Reply, AllocError>
         ensures { IfOk result (λ reply. reply ≡ record {
           members = put key.now (field_of value) self.members;
           tail = self.tail;
@@ -71,7 +71,12 @@ impl Reply {
     }
 
     /// One text more.
-    pub fn with_text(self, alloc: Global, key: &str, words: &str) -> Result<Reply, AllocError>
+    pub(crate) fn with_text(
+        self,
+        alloc: Global,
+        key: &str,
+        words: &str,
+    ) -> Result<Reply, AllocError>
         ensures { IfOk result (λ reply. reply ≡ record {
           members = put key.now (text words.now) self.members;
           tail = self.tail;
@@ -81,8 +86,8 @@ impl Reply {
         self.with(alloc, key, Field::Text(words))
     }
 
-    /// The same reply with other bytes behind its line.
-    pub fn with_tail(self, tail: Vec<u8>) -> Reply
+    /// The same reply with other bytes after its line.
+    pub(crate) fn with_tail(self, tail: Vec<u8>) -> Reply
         ensures { result ≡ record { members = self.members; tail = tail.items } }
     {
         Reply {
@@ -92,7 +97,7 @@ impl Reply {
     }
 
     /// A reply that has a status alone.
-    pub fn of_status(alloc: Global, status: &str) -> Result<Reply, AllocError>
+    pub(crate) fn of_status(alloc: Global, status: &str) -> Result<Reply, AllocError>
         ensures { IfOk result (λ reply. reply ≡ record {
           members = (codes "status", text status.now) ∷ [];
           tail = [];
@@ -101,11 +106,19 @@ impl Reply {
         Reply::new(alloc).with_text(alloc, keys::STATUS, status)
     }
 
-    /// A refusal with no further keys.
-    pub fn refused(alloc: Global, error: &str) -> Result<Reply, AllocError>
-        ensures { IfOk result (λ reply. reply ≡ refusal error.now) }
+    /// One number more.
+    pub(crate) fn with_number(
+        self,
+        alloc: Global,
+        key: &str,
+        number: u64,
+    ) -> Result<Reply, AllocError>
+        ensures { IfOk result (λ reply. reply ≡ record {
+          members = put key.now (num number) self.members;
+          tail = self.tail;
+        }) }
     {
-        Reply::of_status(alloc, statuses::REFUSED)?.with_text(alloc, keys::ERROR, error)
+        self.with(alloc, key, Field::Num(number))
     }
 
     /// The fields, in the order of their keys.
@@ -116,7 +129,7 @@ impl Reply {
         self.members.as_slice()
     }
 
-    /// The bytes behind the line.
+    /// The bytes after the line.
     pub fn tail(&self) -> &[u8]
         ensures { result.now ≡ self.now.tail }
     {
@@ -124,7 +137,7 @@ impl Reply {
     }
 }
 
-// The place of a key, and whether a field with this key stands there.
+// The place of a key, and whether a field with this key is there.
 fn place_of(members: &[Member], key: &str) -> (usize, bool)
     ensures { IsPlaceOf key.now (map member_of members.now) result.0 result.1 }
 {
@@ -157,18 +170,19 @@ fn put_in(
     Ok(())
 }
 
-fn pair_of(alloc: Global, pair: &Pair) -> Result<Value, AllocError>
-    ensures { IfOk result (λ value. view value ≡ pair_data pair.now) }
+fn pair_of(alloc: Global, pair: (u64, u32)) -> Result<Value, AllocError>
+    ensures { IfOk result (λ value. view value ≡ pair_data pair) }
 {
-    json!(in alloc; [pair.id, pair.count])
+    let (id, count) = pair;
+    json!(in alloc; [id, count])
 }
 
-fn pairs_of(alloc: Global, pairs: &[Pair]) -> Result<Vec<Value>, AllocError>
+fn pairs_of(alloc: Global, pairs: &[(u64, u32)]) -> Result<Vec<Value>, AllocError>
     ensures { IfOk result (λ list. items_view list.items ≡ pairs_data pairs.now) }
 {
     let mut list = Vec::new(alloc);
     for pair in pairs {
-        list.push(pair_of(alloc, pair)?)?;
+        list.push(pair_of(alloc, *pair)?)?;
     }
     Ok(list)
 }
@@ -184,7 +198,7 @@ fn value_of(alloc: Global, field: &Field) -> Result<Value, AllocError>
     }
 }
 
-// The members as JSON's, made from the last one on, so that each goes to the front.
+// The members as JSON's, made from the last one on, so that each becomes the first.
 fn object_of(alloc: Global, members: &[Member]) -> Result<Map<String, Value>, AllocError>
     requires { Ascends (map member_of members.now) }
     ensures { IfOk result (λ object.
@@ -210,7 +224,7 @@ fn object_text(alloc: Global, members: &[Member]) -> Result<Vec<u8>, AllocError>
     Ok(text)
 }
 
-/// The line of a reply, its line feed, and the bytes behind it.
+/// The line of a reply, its line feed, and the bytes after it.
 pub fn reply_bytes(alloc: Global, reply: &Reply) -> Result<Vec<u8>, AllocError>
     ensures { IfOk result (λ bytes. bytes.items ≡ reply_text reply.now) }
 {
@@ -218,13 +232,6 @@ pub fn reply_bytes(alloc: Global, reply: &Reply) -> Result<Vec<u8>, AllocError>
     bytes.push(b'\n')?;
     bytes.extend_from_slice(reply.tail())?;
     Ok(bytes)
-}
-
-/// The line that refuses a statement for want of memory. It takes none.
-pub fn memory_line() -> &'static [u8]
-    ensures { result.now ≡ reply_text (refusal (codes "memory")) }
-{
-    b"{\"error\":\"memory\",\"status\":\"refused\"}\n"
 }
 
 #[cfg(test)]

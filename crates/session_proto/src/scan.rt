@@ -1,17 +1,18 @@
-//! Where a frame ends, found byte by byte. A scan keeps where it stands, so that no byte is read twice.
+//! Where a frame ends, found byte by byte. A scan keeps its place, so that no byte is read twice.
 ghost use Rattle.std.specs.Prelude.{◌≡◌, ◌+◌, ◌<◌, ◌^◌, ℕ, List, length, drop, min, not, IsTrue, IsFalse, MatchBool};
-ghost use Rattle.session_proto.specs.Frames.{is_space, is_code, ends, opens, after, shows, is_blank, Skips};
+ghost use Rattle.pq_base.specs.Gaps.{is_space};
+ghost use Rattle.session_proto.specs.Frames.{is_code, ends, opens, after, shows, is_blank, Skips};
 ghost use Rattle.session_proto.specs.Scans.{IsRead, IsScan, IsAt, StandsAtEnd, scan_behind, is_blank_scan};
 
 /// A frame has at most so many bytes with its `;`.
 pub const MAX_FRAME: usize = 1_048_576;
 
-/// Where a byte of a frame stands.
+/// The place of a byte in a frame.
 #[derive(Clone, Copy, Debug, PartialEq, Eq)]
 pub(crate) enum Place {
     /// Outside a text and a comment.
     Plain,
-    /// Behind a `-` that may begin a comment.
+    /// After a `-` that may begin a comment.
     Dash,
     /// In a text.
     Text,
@@ -57,7 +58,7 @@ fn ends(place: Place, byte: u8) -> bool
     is_code(place) && byte == b';'
 }
 
-// Where the next byte stands behind one outside a text and a comment: a `-` leads to a place of its own.
+// The place after a byte outside a text and a comment: a `-` leads to a place of its own.
 fn opens(byte: u8, dash: Place) -> Place
     ensures { result ≡ opens byte dash }
 {
@@ -151,7 +152,8 @@ pub(crate) fn is_blank(scan: Scan, left: &[u8]) -> bool
     scan.is_blank()
 }
 
-/// Reads on to the frame's end, or to the last byte that may be its end. It says whether the end was found.
+/// Reads on to the frame's end, or to the last byte that may be its end. It says whether the end was
+/// found.
 fn read_on(scan: Scan, left: &[u8]) -> (Scan, bool)
     requires { IsScan scan left.now }
     ensures scan { IsScan result.0 left.now }
@@ -169,13 +171,14 @@ fn read_on(scan: Scan, left: &[u8]) -> (Scan, bool)
     (scan, false)
 }
 
-/// Goes past the frames without a token. It says whether a whole frame stands at the cursor then.
+/// Goes past the frames without a token. It says whether a whole frame is at the cursor then.
 pub(crate) fn seek(cursor: Cursor, held: &[u8]) -> (Cursor, bool)
     requires { IsAt cursor held.now }
     ensures at { IsAt result.0 held.now }
     ensures skips { Skips (drop cursor.start held.now) (drop result.0.start held.now) }
     ensures ends { MatchBool result.1
-        (StandsAtEnd result.0.scan (drop result.0.start held.now) × IsFalse (is_blank_scan result.0.scan))
+        (StandsAtEnd result.0.scan (drop result.0.start held.now)
+        × IsFalse (is_blank_scan result.0.scan))
         (result.0.scan.passed ≡ min (length (drop result.0.start held.now)) MAX_FRAME) }
 {
     let mut cursor = cursor;

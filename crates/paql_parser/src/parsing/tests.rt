@@ -1,5 +1,5 @@
 use super::*;
-use paql_ast::predicates::Pred;
+use paql_ast::conditions::Pred;
 use pq_base::Scaled;
 use schema_types::Lit;
 use sqlite_items::Items;

@@ -51,6 +51,7 @@ fn sinks_take_pieces_and_fail_where_told(rt: HostRuntime) -> Result<(), Fail> {
         (b"ef".as_slice(), Push::Took(2)),
     ] {
         assert_eq!(rt; sink.write(piece), want);
+        assert!(rt; !sink.is_starved());
     }
     assert_eq!(rt; sink.written(), b"abef".as_slice());
 

@@ -3,7 +3,7 @@ ghost use Rattle.std.specs.Prelude.{◌<◌};
 use super::*;
 use std::test::*;
 
-// The number behind `LOAD `, as the tests' stand-in for a parser.
+// The number after `LOAD `, as the tests' stand-in for a parser.
 fn body_of(text: &[u8]) -> Option<u64> {
     let digits = text.strip_prefix(b"LOAD ".as_slice())?;
     std::str::from_utf8(digits).ok()?.parse::<u64>().ok()
@@ -104,7 +104,7 @@ fn any_pieces_give_the_same(rt: HostRuntime) -> Result<(), Fail> {
         (b"---;\n;a;", b"[a] clean"),
         (b"-\n-;", b"[-\n-] clean"),
         (b"--\r;a;", b" clean"),
-        // Bodies are taken whatever stands in them.
+        // Bodies are taken whatever is in them.
         (b"LOAD 3;';-a;", b"[LOAD 3]{';-}[a] clean"),
         (b"LOAD 0;a;", b"[LOAD 0]{}[a] clean"),
         (b"LOAD 4;abc", b"[LOAD 4] open!"),

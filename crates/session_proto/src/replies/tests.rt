@@ -11,20 +11,14 @@ enum Given<'a> {
     Flag(bool),
 }
 
-// `None` where the pairs are no package.
+// `None` if the pairs are no package.
 fn field_of(alloc: Global, given: Given) -> Result<Option<Field>, AllocError> {
     match given {
         Given::Num(number) => Ok(Some(Field::Num(number))),
         Given::Text(words) => Ok(Some(Field::Text(String::from_str(alloc, words)?))),
         Given::Flag(truth) => Ok(Some(Field::Flag(truth))),
         Given::Pairs(given) => {
-            let mut pairs = Vec::new(alloc);
-            for (id, count) in given {
-                pairs.push(Pair {
-                    id: *id,
-                    count: *count,
-                })?;
-            }
+            let pairs = given.to_vec(alloc)?;
             Ok(Package::new(pairs).map(Field::Pairs))
         }
     }
@@ -105,7 +99,7 @@ fn replies_are_lines(rt: HostRuntime) -> Result<(), Fail> {
             b"",
             "{\"B\":0,\"a\":false,\"b\":true}\n",
         ),
-        // A longer key stands behind its front, and a key's last field stays.
+        // A longer key comes after its prefix, and a key's last field stays.
         (
             &[
                 (keys::ROWS, Given::Num(u64::MAX)),
@@ -130,22 +124,5 @@ fn replies_are_lines(rt: HostRuntime) -> Result<(), Fail> {
         let bytes = reply_bytes(alloc, &reply)?;
         assert_eq!(rt; bytes.as_slice(), want.as_bytes());
     }
-    Ok(())
-}
-
-#[test]
-fn refusals(rt: HostRuntime) -> Result<(), Fail> {
-    let alloc = rt.alloc();
-    let refused = Reply::refused(alloc, errors::MEMORY)?;
-    let bytes = reply_bytes(alloc, &refused)?;
-    assert_eq!(rt; bytes.as_slice(), memory_line());
-    let refused = Reply::refused(alloc, errors::NOT_BUILT)?;
-    let bytes = reply_bytes(alloc, &refused)?;
-    let want = b"{\"error\":\"notbuilt\",\"status\":\"refused\"}\n";
-    assert_eq!(rt; bytes.as_slice(), want.as_slice());
-    let queued = Reply::of_status(alloc, statuses::QUEUED)?;
-    let bytes = reply_bytes(alloc, &queued.with(alloc, keys::CHANGES, Field::Num(2))?)?;
-    let want = b"{\"changes\":2,\"status\":\"queued\"}\n";
-    assert_eq!(rt; bytes.as_slice(), want.as_slice());
     Ok(())
 }

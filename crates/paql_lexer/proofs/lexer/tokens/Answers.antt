@@ -6,9 +6,9 @@ pub overflow_sub-start : goal.overflow_sub-start
 overflow_sub-start c =
     reached_within c.args.text.now c.loop-rest.tokens.items c.loop-rest.rest.now c.loop-rest.invariant
 
-pub returns-in_default : goal.returns-in_default
-returns-in_default c =
-    reached_fault c.args.text.now c.loop-rest.tokens.items c.loop-rest.rest.now c.loop-rest.invariant (some_from_test (length c.loop-rest.rest.now) c.loop-rest-test.ensures) c.in_default.ensures
+pub returns-in_default-token_at : goal.returns-in_default-token_at
+returns-in_default-token_at c =
+    reached_fault c.args.text.now c.loop-rest.tokens.items c.loop-rest.rest.now c.loop-rest.invariant (some_from_test (length c.loop-rest.rest.now) c.loop-rest-test.ensures) c.in_default-token_at.ensures
 
 pub loop-rest-preserved : goal.loop-rest-preserved
 loop-rest-preserved c =

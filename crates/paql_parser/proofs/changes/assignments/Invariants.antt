@@ -5,7 +5,7 @@ use Rattle.formal_grammar.specs.Parse.{repeat, separated}
 use Rattle.formal_grammar.proofs.Loops.{fold_front}
 use Rattle.paql_grammar.specs.Lexemes.{is}
 use Rattle.paql_grammar.specs.StatementReading.{assignment, next_assignment}
-use Rattle.paql_predicates.specs.Sources.{left}
+use Rattle.paql_reader.specs.Sources.{left}
 use Rattle.paql_parser.proofs.changes.assignments.Given as goal
 
 abbrev pub invariant-parts : goal.invariant-parts

@@ -6,7 +6,7 @@ use Rattle.formal_grammar.proofs.Loops.{more_items, all_items, goes_on_by}
 use Rattle.paql_grammar.specs.Lexemes.{is}
 use Rattle.paql_grammar.specs.StatementReading.{defined_column, next_column}
 use Rattle.paql_grammar.proofs.StatementRules.{column_shrinks}
-use Rattle.paql_predicates.specs.Sources.{left}
+use Rattle.paql_reader.specs.Sources.{left}
 use Rattle.paql_parser.proofs.tables.defined_columns.Goals as goal
 
 pub parts-init : goal.parts-init

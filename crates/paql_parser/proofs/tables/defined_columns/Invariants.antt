@@ -5,7 +5,7 @@ use Rattle.formal_grammar.specs.Parse.{repeat, separated}
 use Rattle.formal_grammar.proofs.Loops.{fold_front}
 use Rattle.paql_grammar.specs.Lexemes.{is}
 use Rattle.paql_grammar.specs.StatementReading.{defined_column, next_column}
-use Rattle.paql_predicates.specs.Sources.{left}
+use Rattle.paql_reader.specs.Sources.{left}
 use Rattle.paql_parser.proofs.tables.defined_columns.Given as goal
 
 abbrev pub invariant-parts : goal.invariant-parts

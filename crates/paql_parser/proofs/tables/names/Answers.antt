@@ -6,7 +6,7 @@ use Rattle.formal_grammar.proofs.Loops.{more_items, all_items, goes_on_by}
 use Rattle.paql_grammar.specs.Lexemes.{is, name_of}
 use Rattle.paql_grammar.specs.StatementReading.{next_name}
 use Rattle.paql_grammar.proofs.StatementRules.{name_shrinks}
-use Rattle.paql_predicates.specs.Sources.{left}
+use Rattle.paql_reader.specs.Sources.{left}
 use Rattle.paql_parser.proofs.tables.names.Goals as goal
 
 pub parts-init : goal.parts-init

@@ -6,7 +6,7 @@ use Rattle.formal_grammar.proofs.Loops.{more_items, all_items, goes_on_by}
 use Rattle.paql_grammar.specs.Lexemes.{is}
 use Rattle.paql_grammar.specs.StatementReading.{tuple, next_tuple}
 use Rattle.paql_grammar.proofs.StatementRules.{tuple_shrinks}
-use Rattle.paql_predicates.specs.Sources.{left}
+use Rattle.paql_reader.specs.Sources.{left}
 use Rattle.paql_parser.proofs.tables.tuples.Goals as goal
 
 pub parts-init : goal.parts-init

@@ -1,6 +1,6 @@
 -- The front so far has the terms so far.
 use Rattle.std.proofs.Common.{◌≡◌, take}
-use Rattle.paql_grammar.specs.Print as print
+use Rattle.paql_printer.specs.Print as print
 use Rattle.paql_printer.specs.Fronts.{written}
 use Rattle.paql_printer.proofs.aggregates.sum.Given as goal
 

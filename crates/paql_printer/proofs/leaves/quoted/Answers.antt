@@ -2,7 +2,7 @@
 use Rattle.std.proofs.Common.{◌∙◌, refl, ap, ℕ, List}
 use Rattle.std.proofs.lemmas.Result.{on_ok_weaker}
 use Rattle.paql_lexer.specs.Lexical.{doubled}
-use Rattle.paql_grammar.specs.Spellings as spellings
+use Rattle.paql_printer.specs.Spellings as spellings
 use Rattle.paql_printer.specs.Fronts.{more}
 use Rattle.paql_printer.proofs.FrontLemmas.{quoted_is}
 use Rattle.paql_printer.proofs.leaves.quoted.Goals as goal

@@ -1,7 +1,7 @@
 -- The front so far has the entries so far.
 use Rattle.std.proofs.Common.{◌≡◌, take}
 use Rattle.paql_lexer.specs.declared.vocabulary.Kind.TheVariants as kinds
-use Rattle.paql_grammar.specs.Print as print
+use Rattle.paql_printer.specs.Print as print
 use Rattle.paql_printer.specs.Fronts.{written}
 use Rattle.paql_printer.proofs.lists.listed.Given as goal
 

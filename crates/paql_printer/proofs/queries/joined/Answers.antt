@@ -1,8 +1,8 @@
--- One condition more, behind its AND.
+-- One constraint more, behind its AND.
 use Rattle.std.proofs.Common.{ap, ◌∙◌, arith}
 use Rattle.paql_lexer.specs.declared.vocabulary.Kind.TheVariants as kinds
 use Rattle.paql_ast.specs.declared.queries.Conjunct.{Conjunct}
-use Rattle.paql_grammar.specs.Print as print
+use Rattle.paql_printer.specs.Print as print
 use Rattle.paql_printer.specs.Fronts.{written}
 use Rattle.paql_printer.proofs.ListLemmas.{listed_step}
 use Rattle.paql_printer.proofs.queries.joined.Goals as goal

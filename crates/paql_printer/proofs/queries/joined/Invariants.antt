@@ -1,7 +1,7 @@
--- The front so far has the conditions so far.
+-- The front so far has the constraints so far.
 use Rattle.std.proofs.Common.{◌≡◌, take}
 use Rattle.paql_lexer.specs.declared.vocabulary.Kind.TheVariants as kinds
-use Rattle.paql_grammar.specs.Print as print
+use Rattle.paql_printer.specs.Print as print
 use Rattle.paql_printer.specs.Fronts.{written}
 use Rattle.paql_printer.proofs.queries.joined.Given as goal
 

@@ -1,6 +1,6 @@
 -- The kind stands in the rest of the table just where it stands in the whole.
 use Rattle.std.proofs.Common.{◌≡◌, length, map}
-use Rattle.paql_grammar.specs.Spellings.{spelling_in}
+use Rattle.paql_printer.specs.Spellings.{spelling_in}
 use Rattle.paql_printer.proofs.spellings.spelling_in.Given as goal
 
 abbrev pub invariant-loop-table : goal.invariant-loop-table

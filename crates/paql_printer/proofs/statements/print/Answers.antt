@@ -1,7 +1,7 @@
 -- The bytes of what is written from the start on are the canonical text, which is read back.
 use Rattle.std.proofs.Common.{◌∙◌, ap}
-use Rattle.paql_grammar.specs.Print as print
-use Rattle.paql_canonical.proofs.ReadBack.{canonical_text_is_read}
+use Rattle.paql_printer.specs.Print as print
+use Rattle.paql_printer.proofs.ReadBack.{canonical_text_is_read}
 use Rattle.paql_printer.specs.Fronts.{Front, written}
 use Rattle.paql_printer.proofs.FrontLemmas.{start_bytes}
 use Rattle.paql_printer.proofs.statements.print.Goals as goal
