@@ -7,4 +7,6 @@ pub mod Duality
 pub mod OnePoint
 pub mod Halves
 mod Cuts
+mod Weights
+mod PlainBounds
 mod Paths

@@ -1,70 +1,37 @@
 -- A box of one point is closed by plain multipliers, where its point is no better.
-use Rattle.std.proofs.Common.{◌≡◌, ◌≢◌, ◌⊎◌, ℕ, zero, suc, ◌<◌, refl, ◌∙◌, ap, arith, inl, inr, replicate, get_or-set_same, get_or-set_other, below_more}
-use Rattle.std.specs.Prelude.{ℤ, pos, ◌+ℤ◌, ◌-ℤ◌, ◌*ℤ◌, ◌≤ℤ◌, ◌<ℤ◌, Option, None, Some, slice_set}
+use Rattle.std.proofs.Common.{◌≡◌, ◌⊎◌, ℕ, zero, suc, ◌<◌, refl, ◌∙◌, ap, arith, inl, inr, below_more}
+use Rattle.std.specs.Prelude.{ℤ, pos, ◌+ℤ◌, ◌-ℤ◌, ◌*ℤ◌, ◌≤ℤ◌, ◌<ℤ◌, Option, None, Some}
 use Rattle.std.proofs.lemmas.Int.{ints, clamps, by_lt_z}
-use Rattle.std.proofs.lemmas.List.{get_or-replicate, length-replicate}
 use Rattle.std.proofs.Math.IntN.{zero-*ℤ}
-use Rattle.lin_bound.specs.Sums.{sum_below, int_at, nat_at}
+use Rattle.lin_bound.specs.Sums.{int_at, nat_at}
 use Rattle.lin_bound.specs.Problem.{ProblemData, variables, row_count, coefficient_of, cost_at, row_at, IsFeasible}
 use Rattle.lin_bound.specs.Box.{IsRegion, IsInBox, IsOnePoint}
-use Rattle.lin_bound.specs.Bound.{share_of, weight, greatest, sides, side_of, part_of, bound_of, Closes, plain}
+use Rattle.lin_bound.specs.Bound.{greatest, bound_of, Closes, plain}
+use Rattle.lin_bound.specs.Activities.{least}
 use Rattle.lin_bound.specs.Laws.{NotAbove, OnePointCloses}
+use Rattle.lin_bound.proofs.PlainBounds.{bound_by_cost, bound_by_row}
 use Rattle.lin_bound.specs.declared.region.Region.{Region}
-use Rattle.lin_bound.proofs.Products.{mul-sub_left}
-use Rattle.lin_bound.proofs.Sums.{sum-ext, sum-zero, sum-single, sum-sub}
-
--- number 0 gives each row no multiplier
-none_at : (m j : ℕ) → j < m → nat_at (replicate m 0) j ≡ 0
-none_at m j h = get_or-replicate m j 0 0 h
-
-times_none : (k : ℕ) (z : ℤ) → k ≡ 0 → pos k *ℤ z ≡ pos 0
-times_none k z e = ap (λ (n : ℕ). pos n *ℤ z) e ∙ zero-*ℤ z
-
--- number j gives row j alone a multiplier, which is 1
-one_at : (m j : ℕ) → j < m → nat_at (slice_set (replicate m 0) j 1) j ≡ 1
-one_at m j h = get_or-set_same (replicate m 0) j 1 0 (omega (arith, length-replicate {A = ℕ} m 0))
-
-none_beside : (m j k : ℕ) → k < m → k ≢ j → nat_at (slice_set (replicate m 0) j 1) k ≡ 0
-none_beside m j k h ne = get_or-set_other (replicate m 0) j k 1 0 ne ∙ none_at m k h
-
--- the sum under the multipliers of row j is its own
-row_alone : (m j : ℕ) (f : ℕ → ℤ) → j < m → sum_below (λ (k : ℕ). pos (nat_at (slice_set (replicate m 0) j 1) k) *ℤ f k) m ≡ f j
-row_alone m j f h =
-    let g = λ (k : ℕ). pos (nat_at (slice_set (replicate m 0) j 1) k) *ℤ f k in
-    let single : sum_below g m ≡ g j = sum-single g j m h (λ i below ne. times_none (nat_at (slice_set (replicate m 0) j 1) i) (f i) (none_beside m j i below ne)) in
-    single ∙ (ap (λ (n : ℕ). pos n *ℤ f j) (one_at m j h) ∙ omega (arith, ints))
+use Rattle.lin_bound.proofs.Sums.{sum-ext}
 
 -- at one count the greatest is the product
 greatest_same : (w : ℤ) (low high : ℕ) → low ≡ high → greatest w low high ≡ w *ℤ pos low
 greatest_same w low high e = omega (arith, ints, clamps, ap (λ (t : ℕ). w *ℤ pos t) e)
 
+least_same : (w : ℤ) (low high : ℕ) → low ≡ high → least w low high ≡ w *ℤ pos low
+least_same w low high e = omega (arith, ints, clamps, ap (λ (t : ℕ). w *ℤ pos t) e)
+
 -- the bound under number 0 is the cost of the point
 pub bound_of_cost : (p : ProblemData) (box : Region) → IsOnePoint p box → bound_of p box (plain p 0) ≡ cost_at p box.low
 bound_of_cost p box one =
-    let m = row_count p in
-    let mult = plain p 0 in
-    let no_sides : sides p mult ≡ pos 0 = sum-zero (side_of p mult) m (λ j h. times_none (nat_at mult.lambda j) (int_at p.rhs j) (none_at m j h)) in
-    let no_shares : (i : ℕ) → sum_below (share_of p mult i) m ≡ pos 0 = λ i. sum-zero (share_of p mult i) m (λ j h. times_none (nat_at mult.lambda j) (coefficient_of p j i) (none_at m j h)) in
-    let weight_is : (i : ℕ) → weight p mult i ≡ int_at p.cost i = λ i. omega (arith, ints, no_shares i) in
-    let parts = sum-ext (part_of p box mult) (λ (i : ℕ). int_at p.cost i *ℤ pos (nat_at box.low i)) (variables p)
-    (λ i h. greatest_same (weight p mult i) (nat_at box.low i) (nat_at box.high i) (one i h) ∙ ap (λ (w : ℤ). w *ℤ pos (nat_at box.low i)) (weight_is i)) in
-    omega (arith, ints, no_sides, parts)
-
-minus_times : (a : ℤ) (t : ℕ) → (pos 0 -ℤ a) *ℤ pos t ≡ pos 0 -ℤ (a *ℤ pos t)
-minus_times a t = omega (arith, ints, mul-sub_left (pos 0) a (pos t), zero-*ℤ (pos t))
+    bound_by_cost p box ∙ sum-ext (λ (i : ℕ). greatest (int_at p.cost i) (nat_at box.low i) (nat_at box.high i)) (λ (i : ℕ). int_at p.cost i *ℤ pos (nat_at box.low i)) (variables p)
+    (λ i h. greatest_same (int_at p.cost i) (nat_at box.low i) (nat_at box.high i) (one i h))
 
 -- the bound under a row's number is what the point leaves of that row
 pub bound_of_row : (p : ProblemData) (box : Region) (j : ℕ) → j < row_count p → IsOnePoint p box → bound_of p box (plain p (suc j)) ≡ int_at p.rhs j -ℤ row_at p j box.low
 bound_of_row p box j below one =
-    let m = row_count p in
-    let mult = plain p (suc j) in
-    let side : sides p mult ≡ int_at p.rhs j = row_alone m j (int_at p.rhs) below in
-    let shares : (i : ℕ) → sum_below (share_of p mult i) m ≡ coefficient_of p j i = λ i. row_alone m j (λ (k : ℕ). coefficient_of p k i) below in
-    let weight_is : (i : ℕ) → weight p mult i ≡ pos 0 -ℤ coefficient_of p j i = λ i. omega (arith, ints, shares i, zero-*ℤ (int_at p.cost i)) in
-    let term = λ (i : ℕ). coefficient_of p j i *ℤ pos (nat_at box.low i) in
-    let parts = sum-ext (part_of p box mult) (λ (i : ℕ). pos 0 -ℤ term i) (variables p)
-    (λ i h. greatest_same (weight p mult i) (nat_at box.low i) (nat_at box.high i) (one i h) ∙ (ap (λ (w : ℤ). w *ℤ pos (nat_at box.low i)) (weight_is i) ∙ minus_times (coefficient_of p j i) (nat_at box.low i))) in
-    omega (arith, ints, side, parts, sum-sub (λ (i : ℕ). pos 0) term (variables p), sum-zero (λ (i : ℕ). pos 0) (variables p) (λ i h. refl))
+    let values = sum-ext (λ (i : ℕ). least (coefficient_of p j i) (nat_at box.low i) (nat_at box.high i)) (λ (i : ℕ). coefficient_of p j i *ℤ pos (nat_at box.low i)) (variables p)
+    (λ i h. least_same (coefficient_of p j i) (nat_at box.low i) (nat_at box.high i) (one i h)) in
+    bound_by_row p box j below ∙ ap (λ (z : ℤ). int_at p.rhs j -ℤ z) values
 
 -- each number of one list is at most that of the other, or one is above
 all_or_one : (f g : ℕ → ℤ) (n : ℕ) → ((j : ℕ) → j < n → f j ≤ℤ g j) ⊎ ((j : ℕ) × (j < n) × (g j <ℤ f j))

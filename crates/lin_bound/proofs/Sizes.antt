@@ -1,14 +1,15 @@
 -- No sum of the bound is too large for the machine's numbers.
-use Rattle.std.proofs.Common.{◌≡◌, ℕ, zero, suc, ◌+◌, ◌*◌, ◌^◌, ◌<◌, ◌≤◌, arith, add-one, List, mul-le-mul, mul-le-mul_right}
+use Rattle.std.proofs.Common.{◌∙◌, ap, ◌≡◌, ℕ, zero, suc, ◌+◌, ◌*◌, ◌^◌, ◌<◌, ◌≤◌, arith, add-one, List, mul-le-mul, mul-le-mul_right}
 use Rattle.std.specs.Prelude.{ℤ, pos, ◌+ℤ◌, ◌-ℤ◌, ◌*ℤ◌, unsigned_abs, FitsSigned}
 use Rattle.std.specs.Int.{int_max}
-use Rattle.std.proofs.lemmas.Int.{ints, clamps, unsigned_abs-mul, fits_signed_from_abs, to_z-of_z}
+use Rattle.std.proofs.lemmas.Int.{ints, clamps, unsigned_abs-mul, fits_signed_from_abs, to_z-of_z, to_z_pos}
 use mir.Syntax.{w64, w128}
 use mir.Val.{SFits, to_z, of_z}
 use Rattle.lin_bound.specs.Sums.{sum_below, count_below, int_at, nat_at}
 use Rattle.lin_bound.specs.Problem.{value_at, load, ProblemData, variables, row_count, coefficient_of, IsLegal}
 use Rattle.lin_bound.specs.Box.{IsRegion}
 use Rattle.lin_bound.specs.Bound.{IsMult, share_of, weight, greatest, part_of}
+use Rattle.lin_bound.specs.Weights.{mass}
 use Rattle.lin_bound.specs.declared.region.Region.{Region}
 use Rattle.lin_bound.specs.declared.mult.Mult.{Mult}
 use Rattle.lin_bound.proofs.Sums.{count-zero, count-more, count-most}
@@ -60,11 +61,6 @@ loads : (u c l : ℕ → ℕ) (a : ℕ → ℕ → ℕ) (d m n : ℕ) → count_
 loads u c l a d m zero = omega (arith, count-zero (λ (j : ℕ). l j * 0) m (λ j h. omega arith))
 loads u c l a d m (suc n) =
     omega (arith, loads u c l a d m n, loads-step l (λ j. count_below (λ i. u i * a j i) n) (λ j. a j n) (u n) m)
-
--- the size that the weight of a variable can have
-abbrev pub mass : ProblemData → Mult → ℕ → ℕ
-mass p mult i = mult.d * unsigned_abs (int_at p.cost i)
-    + count_below (λ (j : ℕ). nat_at mult.lambda j * unsigned_abs (coefficient_of p j i)) (row_count p)
 
 weight_size : (p : ProblemData) (mult : Mult) (i : ℕ) → unsigned_abs (weight p mult i) ≤ mass p mult i
 weight_size p mult i =
@@ -149,3 +145,29 @@ pub value_small : (upper x : List ℕ) (coefficients : List ℤ) (n : ℕ) → (
 value_small upper x coefficients n within =
     abs-sum_below (λ (i : ℕ). int_at coefficients i *ℤ pos (nat_at x i)) (λ (i : ℕ). nat_at upper i * unsigned_abs (int_at coefficients i)) n
     (λ i h. omega (arith, unsigned_abs-mul (int_at coefficients i) (pos (nat_at x i)), mul-le-mul_right (unsigned_abs (int_at coefficients i)) (within i h)))
+
+-- a product of the machine's numbers
+pub gain_stored : (each end : ℤ) (count : ℕ) (most : ℤ) → SFits w128 each → end ≡ pos count → count < 2 ^ 64 → unsigned_abs each * count < 2 ^ 127 → each *ℤ pos count ≡ most
+    → to_z w128 (of_z w128 (to_z w128 (of_z w128 each) *ℤ to_z w128 (of_z w128 end))) ≡ most
+gain_stored each end count most fits end_is few small is =
+    let end_fits : SFits w128 (pos count) = omega (arith, ints, few) in
+    let product_fits : SFits w128 (each *ℤ pos count) = fits_signed_from_abs w128 (each *ℤ pos count) (omega (arith, unsigned_abs-mul each (pos count), small)) in
+    rw end_is (simp to_z-of_z is)
+
+pub part_stored : (each : ℤ) (count : ℕ) (most : ℤ) → SFits w64 each → count ≤ 10 ^ 12 → unsigned_abs each * count ≤ 2 ^ 60 → each *ℤ pos count ≡ most
+    → to_z w64 (of_z w64 (to_z w64 (of_z w64 each) *ℤ to_z w64 count)) ≡ most
+part_stored each count most fits few small is =
+    let product_fits : SFits w64 (each *ℤ pos count) = fits_signed_from_abs w64 (each *ℤ pos count) (omega (arith, unsigned_abs-mul each (pos count), small)) in
+    rw (to_z_pos w64 count (omega (arith, few))) (simp to_z-of_z is)
+
+-- the parts so far and the next, in a block from a start on
+pub block_more : (p : ProblemData) (box : Region) (mult : Mult) (start place : ℕ) (total w gain : ℤ) (low high : List ℕ) → total ≡ sum_below (part_of p box mult) (start + place)
+    → w ≡ weight p mult (start + place) → low ≡ box.low → high ≡ box.high → gain ≡ greatest w (nat_at low (start + place)) (nat_at high (start + place))
+    → total +ℤ gain ≡ sum_below (part_of p box mult) (start + (place + 1))
+block_more p box mult start place total w gain low high total_is w_is low_is high_is gain_is =
+    let next : (start + place) + 1 ≡ start + (place + 1) = omega arith in
+    parts_more p box mult (start + place) total w gain low high total_is w_is low_is high_is gain_is ∙ ap (sum_below (part_of p box mult)) next
+
+-- a sum of 64 bits that fits is what the machine adds
+pub stored_narrow : (total part sum : ℤ) → SFits w64 part → SFits w64 (total +ℤ part) → total +ℤ part ≡ sum → to_z w64 (of_z w64 (total +ℤ to_z w64 (of_z w64 part))) ≡ sum
+stored_narrow total part sum part_fits sum_fits is = simp to_z-of_z is

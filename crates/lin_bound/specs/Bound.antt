@@ -1,5 +1,6 @@
 -- The dual bound of a box under multipliers, and when it closes the box.
-use Rattle.std.specs.Prelude.{◌≡◌, ℕ, zero, suc, ◌^◌, ◌<◌, ◌≤◌, length, replicate, slice_set, ℤ, pos, ◌+ℤ◌, ◌-ℤ◌, ◌*ℤ◌, Option, None, Some}
+use Rattle.std.specs.Prelude.{◌≡◌, ℕ, zero, suc, ◌^◌, ◌<◌, ◌≤◌, length, replicate, slice_set, ℤ}
+use Rattle.std.specs.Prelude.{pos, ◌+ℤ◌, ◌-ℤ◌, ◌*ℤ◌, Option, None, Some}
 use Rattle.std.specs.Int.{int_max}
 use lib.Signed.{◌<ℤ◌}
 use Rattle.lin_bound.specs.Sums.{sum_below, int_at, nat_at}
@@ -40,7 +41,8 @@ sides p mult = sum_below (side_of p mult) (row_count p)
 abbrev pub bound_of : ProblemData → Region → Mult → ℤ
 bound_of p box mult = sides p mult +ℤ sum_below (part_of p box mult) (variables p)
 
--- the multipliers close the box: for a value, no feasible point of it is greater; for no value, it holds none
+-- the multipliers close the box: for a value, no feasible point of it is greater; for no value, it
+-- holds none
 abbrev pub Closes : ProblemData → Region → Mult → Option ℤ → Type 0
 Closes p box mult None = (mult.d ≡ 0) × (bound_of p box mult <ℤ pos 0)
 Closes p box mult (Some z) = bound_of p box mult <ℤ (pos mult.d *ℤ (z +ℤ pos 1))
@@ -49,3 +51,15 @@ Closes p box mult (Some z) = bound_of p box mult <ℤ (pos mult.d *ℤ (z +ℤ p
 abbrev pub plain : ProblemData → ℕ → Mult
 plain p zero = record { d = 1; lambda = replicate (row_count p) 0 }
 plain p (suc j) = record { d = 0; lambda = slice_set (replicate (row_count p) 0) j 1 }
+
+-- the least number whose plain multipliers close the box
+pub record IsLeastClosing (p : ProblemData) (box : Region) (best : Option ℤ)
+    (number : ℕ) : Type 0 where
+  pub within : number ≤ row_count p
+  pub closes : Closes p box (plain p number) best
+  pub least : (n : ℕ) → n < number → ¬ Closes p box (plain p n) best
+
+-- that number, and none exactly if no plain multipliers close the box
+abbrev pub IsPlainClosing : ProblemData → Region → Option ℤ → Option ℕ → Type 0
+IsPlainClosing p box best None = (n : ℕ) → n ≤ row_count p → ¬ Closes p box (plain p n) best
+IsPlainClosing p box best (Some number) = IsLeastClosing p box best number

@@ -1,5 +1,7 @@
 -- Boxes of points, and the branches that cut them.
-use Rattle.std.specs.Prelude.{◌≡◌, ℕ, ◌+◌, ◌<◌, ◌≤◌, List, [], ◌∷◌, length, replicate, slice_set, if◌then◌else◌}
+use Rattle.std.specs.Prelude.{◌≡◌, ℕ, ◌+◌, ◌<◌, ◌≤◌, true, false, Option, None, Some, List, [], ◌∷◌}
+use Rattle.std.specs.Prelude.{length}
+use Rattle.std.specs.Prelude.{replicate, slice_set, if◌then◌else◌}
 use Rattle.lin_bound.specs.Sums.{nat_at}
 use Rattle.lin_bound.specs.Problem.{ProblemData, variables}
 use Rattle.lin_bound.specs.declared.region.Region.{Region}
@@ -8,6 +10,13 @@ use Rattle.lin_bound.specs.declared.path.Branch.{Branch}
 -- the points within the uppers
 abbrev pub whole_box : ProblemData → Region
 whole_box p = record { low = replicate (variables p) 0; high = p.upper }
+
+-- the branch to the lower half of a split, and the one to its upper half
+abbrev pub lower : ℕ → ℕ → Branch
+lower var at = record { var = var; at = at; high = false }
+
+abbrev pub upper : ℕ → ℕ → Branch
+upper var at = record { var = var; at = at; high = true }
 
 -- the branch divides the box: its variable has room on both sides of `at`
 pub record Splits (branch : Branch) (box : Region) : Type 0 where
@@ -44,6 +53,12 @@ pub record IsRegion (p : ProblemData) (box : Region) : Type 0 where
   pub high_each : length box.high ≡ variables p
   pub ordered : (i : ℕ) → i < variables p → nat_at box.low i ≤ nat_at box.high i
   pub within : (i : ℕ) → i < variables p → nat_at box.high i ≤ nat_at p.upper i
+
+-- the box of a path that has one, and none if a branch doesn't divide the box that those before
+-- it leave
+abbrev pub IsTriedBox : ProblemData → List Branch → Option Region → Type 0
+IsTriedBox p path None = ¬ IsPath p path
+IsTriedBox p path (Some box) = IsPath p path × (box ≡ box_at p path) × IsRegion p box
 
 -- a point that lies in the box
 pub record IsInBox (p : ProblemData) (box : Region) (x : List ℕ) : Type 0 where

@@ -1,3 +1,4 @@
+-- Private: the laws in `src/laws.rt`, on which certificates and the search rest.
 -- The laws that a search rests on.
 use Rattle.std.specs.Prelude.{◌≡◌, ℕ, ◌≤◌, List, ℤ, pos, ◌*ℤ◌, ◌≤ℤ◌, Option, None, Some, ◌⊎◌, not}
 use Rattle.lin_bound.specs.Problem.{ProblemData, row_count, cost_at, IsFeasible}
@@ -30,7 +31,8 @@ abbrev pub ClosedHoldsNone : Type 0
 ClosedHoldsNone = (p : ProblemData) (box : Region) (mult : Mult) (best : Option ℤ) (x : List ℕ)
     → Closes p box mult best → IsFeasible p x → IsInBox p box x → NotAbove p x best
 
--- A box of one point that holds no feasible point above the value is closed by some plain multipliers.
+-- A box of one point that holds no feasible point above the value is closed by some plain
+-- multipliers.
 abbrev pub OnePointCloses : Type 0
 OnePointCloses = (p : ProblemData) (box : Region) (best : Option ℤ)
     → IsRegion p box → IsOnePoint p box
@@ -45,7 +47,8 @@ other_half branch = record { var = branch.var; at = branch.at; high = not branch
 pub record IsHalved (p : ProblemData) (branch : Branch) (box : Region) : Type 0 where
   pub region : IsRegion p (half branch box)
   pub inside : (x : List ℕ) → IsInBox p (half branch box) x → IsInBox p box x
-  pub covers : (x : List ℕ) → IsInBox p box x → IsInBox p (half branch box) x ⊎ IsInBox p (half (other_half branch) box) x
+  pub covers : (x : List ℕ) → IsInBox p box x
+      → IsInBox p (half branch box) x ⊎ IsInBox p (half (other_half branch) box) x
 
 abbrev pub HalvesCover : Type 0
 HalvesCover = (p : ProblemData) (box : Region) (branch : Branch)

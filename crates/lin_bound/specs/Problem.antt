@@ -1,6 +1,7 @@
--- A bounded integer program: the whole numbers x with 0 <= x_i <= upper_i whose rows keep row·x <= rhs,
--- and of these one with the greatest cost·x.
-use Rattle.std.specs.Prelude.{◌≡◌, ℕ, ◌*◌, ◌^◌, ◌<◌, ◌≤◌, List, [], length, ℤ, pos, ◌*ℤ◌, ◌≤ℤ◌, slice_index_or}
+-- A bounded integer program: the whole numbers x with 0 <= x_i <= upper_i whose rows keep row·x <=
+-- rhs, and of these one with the greatest cost·x.
+use Rattle.std.specs.Prelude.{◌≡◌, ℕ, ◌*◌, ◌^◌, ◌<◌, ◌≤◌, List, [], length, ℤ, pos, ◌*ℤ◌, ◌≤ℤ◌}
+use Rattle.std.specs.Prelude.{slice_index_or}
 use Rattle.std.specs.Int.RustNames.{unsigned_abs}
 use Rattle.lin_bound.specs.Sums.{sum_below, count_below, int_at, nat_at}
 
@@ -51,7 +52,8 @@ pub record IsFeasible (p : ProblemData) (x : List ℕ) : Type 0 where
 
 -- the greatest size that coefficients·x can have within the uppers
 abbrev pub load : List ℕ → List ℤ → ℕ → ℕ
-load upper coefficients n = count_below (λ (i : ℕ). nat_at upper i * unsigned_abs (int_at coefficients i)) n
+load upper coefficients n =
+    count_below (λ (i : ℕ). nat_at upper i * unsigned_abs (int_at coefficients i)) n
 
 -- what a problem keeps: lengths agree, and no sum of it is too large for the machine's numbers
 pub record IsLegal (p : ProblemData) : Type 0 where

@@ -1,13 +1,21 @@
 //! The dual bound of a box under multipliers, and when it closes the box.
-ghost use Rattle.std.specs.Prelude.{◌≡◌, ◌*◌, ◌^◌, ◌<◌, ◌≤◌, ◌↔◌, IsTrue, pos, ◌+ℤ◌, ◌*ℤ◌, unsigned_abs};
+ghost use Rattle.std.specs.Prelude.{◌≡◌, ℕ, ◌*◌, ◌^◌, ◌<◌, ◌≤◌, ◌↔◌, IsTrue, pos, ◌+ℤ◌, ◌*ℤ◌, unsigned_abs};
 ghost use Rattle.lin_bound.specs.Sums.{sum_below};
 ghost use Rattle.lin_bound.specs.Problem.{variables, row_count};
 ghost use Rattle.lin_bound.specs.Box.{IsRegion};
-ghost use Rattle.lin_bound.specs.Bound.{IsMult, share_of, weight, greatest, sides, part_of, bound_of, Closes};
+ghost use Rattle.lin_bound.specs.Bound.{IsMult, greatest, sides, part_of, bound_of, Closes};
+ghost use Rattle.lin_bound.specs.Weights.{mass};
 
 use crate::mult::Mult;
 use crate::problem::Problem;
 use crate::region::Region;
+use crate::{narrow, wide};
+
+/// So many variables are weighed at a time, in room on the stack.
+pub(crate) const BLOCK: usize = 256;
+
+/// Weights below this are summed in 64 bits.
+const LIGHT: u128 = 1 << 62;
 
 /// A multiplier times a coefficient or a right-hand side.
 fn share(multiplier: u32, number: i64) -> i128
@@ -19,37 +27,17 @@ fn share(multiplier: u32, number: i64) -> i128
     i128::from(multiplier) * i128::from(number)
 }
 
-/// What the rows take from the weight of a variable.
-fn shares(problem: &Problem, mult: &Mult, variable: usize) -> i128
-    requires mult { IsMult problem.now mult.now }
-    requires variable { variable < variables problem.now }
-    ensures value { result ≡ sum_below (share_of problem.now mult.now variable) (row_count problem.now) }
-    ensures small { unsigned_abs result ≤ 64 * 2 ^ 93 }
-{
-    let multipliers = mult.lambda.as_slice();
-    let mut total: i128 = 0;
-    for row in 0..problem.row_count() {
-        total += share(multipliers[row], problem.coefficient(row, variable));
-    }
-    total
-}
-
-/// What one unit of a variable adds to the bound.
-fn weight(problem: &Problem, mult: &Mult, variable: usize) -> i128
-    requires mult { IsMult problem.now mult.now }
-    requires variable { variable < variables problem.now }
-    ensures { result ≡ weight problem.now mult.now variable }
-{
-    share(mult.d, problem.cost(variable)) - shares(problem, mult, variable)
-}
-
 /// The most that a variable between two ends adds, at so much a unit.
-fn gain(each: i128, low: u64, high: u64) -> i128
-    requires low { unsigned_abs each * low < 2 ^ 127 }
-    requires high { unsigned_abs each * high < 2 ^ 127 }
+pub(crate) fn gain(each: i128, low: u64, high: u64) -> i128
+    requires ends { low ≤ high }
+    requires small { unsigned_abs each * high < 2 ^ 127 }
     ensures { result ≡ greatest each low high }
 {
-    (each * i128::from(low)).max(each * i128::from(high))
+    if each >= 0 {
+        each * i128::from(high)
+    } else {
+        each * i128::from(low)
+    }
 }
 
 /// What the right-hand sides add.
@@ -66,27 +54,45 @@ fn sides(problem: &Problem, mult: &Mult) -> i128
     total
 }
 
-/// What the variables add.
-fn gains(problem: &Problem, region: &Region, mult: &Mult) -> i128
-    requires region { IsRegion problem.now region.now }
-    requires mult { IsMult problem.now mult.now }
-    ensures value { result ≡ sum_below (part_of problem.now region.now mult.now) (variables problem.now) }
-    ensures small { unsigned_abs result ≤ 65 * 2 ^ 90 }
+/// A multiplier times a size.
+fn product(multiplier: u32, size: u64) -> u128
+    ensures { result ≡ multiplier * size }
 {
-    let low = region.low.as_slice();
-    let high = region.high.as_slice();
-    let mut total: i128 = 0;
-    for variable in 0..problem.variables() {
-        total += gain(
-            weight(problem, mult, variable),
-            low[variable],
-            high[variable],
-        );
+    u128::from(multiplier) * u128::from(size)
+}
+
+/// The most that a weight can come to in size.
+fn most_mass(problem: &Problem, mult: &Mult) -> u128
+    requires { IsMult problem.now mult.now }
+    ensures most { (i : ℕ) → i < variables problem.now → mass problem.now mult.now i ≤ result }
+    ensures small { result < 2 ^ 126 }
+{
+    let multipliers = mult.lambda.as_slice();
+    let mut total = product(mult.d, problem.cost_size());
+    for row in 0..problem.row_count() {
+        total += product(multipliers[row], problem.row_size(row));
     }
     total
 }
 
-/// The dual bound: `d` times the cost of each feasible point of the box is at most this.
+/// What the variables add: by sums of 64 bits, if the multipliers and the coefficients are so small that they fit.
+fn gains(problem: &Problem, region: &Region, mult: &Mult) -> i128
+    requires region { IsRegion problem.now region.now }
+    requires mult { IsMult problem.now mult.now }
+    ensures value { result ≡
+        sum_below (part_of problem.now region.now mult.now) (variables problem.now) }
+    ensures small { unsigned_abs result ≤ 65 * 2 ^ 90 }
+{
+    let _legal = problem.variables();
+    if most_mass(problem, mult) < LIGHT {
+        narrow::gains(problem, region, mult)
+    } else {
+        wide::gains(problem, region, mult)
+    }
+}
+
+/// The dual bound: `d` times the cost of each feasible point of the box is at most this. It takes a pass over the
+/// columns for the cost and for each row whose multiplier isn't 0, in blocks of columns, and no memory.
 /// See Wolsey, Integer Programming, section 10.2 (Lagrangian duality).
 pub fn bound(problem: &Problem, region: &Region, mult: &Mult) -> i128
     requires region { IsRegion problem.now region.now }

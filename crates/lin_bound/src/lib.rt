@@ -4,10 +4,13 @@
 mod bounds;
 mod laws;
 mod mult;
+mod narrow;
 mod path;
+mod plain;
 mod points;
 mod problem;
 mod region;
+mod wide;
 
 pub use bounds::{bound, closes};
 pub use laws::{
@@ -15,9 +18,10 @@ pub use laws::{
 };
 pub use mult::{Mult, plain_mult};
 pub use path::{Branch, Path};
+pub use plain::plain_closing;
 pub use points::Point;
 pub use problem::Problem;
-pub use region::{Region, box_of};
+pub use region::{Region, box_of, try_box_of};
 
 #[cfg(test)]
 mod tests;

@@ -1,15 +1,17 @@
 //! The branches that lead from the whole box of a problem to a part of it.
 ghost use Rattle.std.specs.Prelude.{◌≡◌, ◌<◌, ◌++◌, ◌∷◌, [], ◌↔◌, IsTrue, length, IfOk, slice_get, Some};
+ghost use Rattle.lin_bound.specs.Box.{lower, upper};
 
 use sqlite_items::Items;
 use std::alloc::{AllocError, Global};
 use std::marker::Model;
 
-/// One half of a box: variable `var` at most `at`, or with `high` at least `at + 1`.
+/// One half of a box: variable `var` at most `at`, or with `high` at least `at + 1`. It takes 16 bytes: the widest
+/// field comes first, since a search keeps very many of them.
 #[derive(Clone, Copy, Debug, PartialEq, Eq)]
 pub struct Branch {
-    pub var: u32,
     pub at: u64,
+    pub var: u32,
     pub high: bool,
 }
 
@@ -38,13 +40,27 @@ impl Path {
         }
     }
 
-    /// The path to the half that the branch keeps.
+    /// The path to the half that the branch keeps. Its memory is that of its branches, and no more.
     pub fn child(&self, alloc: Global, branch: Branch) -> Result<Path, AllocError>
         ensures { IfOk result (λ path. path ≡ self.now ++ branch ∷ []) }
     {
-        let mut branches = Items::from_slice(alloc, self.branches.as_slice())?;
+        let mut branches = Vec::with_capacity(alloc, self.len().saturating_add(1))?;
+        branches.extend_from_slice(self.branches.as_slice())?;
         branches.push(branch)?;
-        Ok(Path { branches })
+        Ok(Path {
+            branches: Items::from_vec(branches),
+        })
+    }
+
+    /// The paths to the two halves of its box, split at `var <= at`: the lower half first.
+    pub fn halves(&self, alloc: Global, var: u32, at: u64) -> Result<(Path, Path), AllocError>
+        ensures lower { IfOk result (λ both. both.0 ≡ self.now ++ lower var at ∷ []) }
+        ensures upper { IfOk result (λ both. both.1 ≡ self.now ++ upper var at ∷ []) }
+    {
+        let (low, high) = (false, true);
+        let lower = self.child(alloc, Branch { var, at, high: low })?;
+        let upper = self.child(alloc, Branch { var, at, high })?;
+        Ok((lower, upper))
     }
 
     /// The same path once more.

@@ -1,16 +1,27 @@
 //! Points, and how a problem judges them.
-ghost use Rattle.std.specs.Prelude.{◌≡◌, ◌≤◌, ◌<◌, ◌^◌, ◌↔◌, IsTrue, ℕ, length, pos, ◌*ℤ◌, unsigned_abs};
+ghost use Rattle.std.specs.Prelude.{◌≡◌, ◌≤◌, ◌<◌, ◌^◌, ◌↔◌, IsTrue, IfOk, ℕ, length, pos, ◌*ℤ◌, unsigned_abs};
 ghost use Rattle.lin_bound.specs.Problem.{variables, value_at, cost_at, IsLegal, IsWithin, KeepsRows, IsFeasible};
 ghost use Rattle.lin_bound.specs.Sums.{nat_at};
 
 use crate::problem::Problem;
 use sqlite_items::Items;
+use std::alloc::{AllocError, Global};
 use std::marker::Model;
 
 /// How much of each variable a solution takes.
 #[derive(Debug, Drop)]
 pub struct Point {
     counts: Items<u64>,
+}
+
+/// Copies counts over others, in the room that these have.
+fn overwrite(from: &[u64], into: &mut Items<u64>)
+    requires { length from.now ≡ length into.old }
+    ensures { into.new ≡ from.now }
+{
+    for place in 0..from.len() {
+        into.set(place, from[place]);
+    }
 }
 
 impl Model for Point {
@@ -27,6 +38,23 @@ impl Point {
         ensures { result ≡ counts }
     {
         Point { counts }
+    }
+
+    /// The same point once more.
+    pub fn copy(&self, alloc: Global) -> Result<Point, AllocError>
+        ensures { IfOk result (λ point. point ≡ self.now) }
+    {
+        Ok(Point {
+            counts: Items::from_slice(alloc, self.counts())?,
+        })
+    }
+
+    /// Makes it the point with these counts, which are as many. It takes no memory.
+    pub fn copy_from(&mut self, counts: &[u64])
+        requires { length counts.now ≡ length self.old }
+        ensures { self.new ≡ counts.now }
+    {
+        overwrite(counts, &mut self.counts);
     }
 
     /// The counts, one a variable.
@@ -47,7 +75,8 @@ fn part(coefficient: i64, count: u64) -> i128
 /// The coefficients times the counts, added up.
 fn value_of(coefficients: &[i64], counts: &[u64]) -> i64
     requires same { length coefficients.now ≡ length counts.now }
-    requires small { (n : ℕ) → n ≤ length counts.now → unsigned_abs (value_at coefficients.now counts.now n) ≤ 2 ^ 60 }
+    requires small { (n : ℕ) → n ≤ length counts.now →
+        unsigned_abs (value_at coefficients.now counts.now n) ≤ 2 ^ 60 }
     ensures { result ≡ value_at coefficients.now counts.now (length counts.now) }
 {
     let mut total: i128 = 0;
@@ -91,7 +120,8 @@ impl Problem {
     /// The cost of a point within the uppers. It takes no memory.
     pub fn cost_of(&self, point: &Point) -> i64
         requires each { length point.now ≡ variables self.now }
-        requires within { (i : ℕ) → i < variables self.now → nat_at point.now i ≤ nat_at self.now.upper i }
+        requires within { (i : ℕ) → i < variables self.now →
+            nat_at point.now i ≤ nat_at self.now.upper i }
         ensures value { result ≡ cost_at self.now point.now }
         ensures legal { IsLegal self.now }
     {

@@ -1,5 +1,5 @@
 //! A bounded integer program.
-ghost use Rattle.std.specs.Prelude.{◌≡◌, ◌<◌};
+ghost use Rattle.std.specs.Prelude.{◌≡◌, ◌<◌, ◌≤◌, ℕ, length, slice_index_or, [], unsigned_abs};
 ghost use Rattle.lin_bound.specs.Problem.{variables, row_count, row_of, coefficient_of, IsLegal};
 ghost use Rattle.lin_bound.specs.Sums.{int_at, nat_at};
 
@@ -13,16 +13,49 @@ pub struct Problem {
     rows: Items<Items<i64>>,
     rhs: Items<i64>,
     upper: Items<u64>,
+    /// No cost is larger in size.
+    cost_size: u64,
+    /// No coefficient of the row with this number is larger in size.
+    row_sizes: [u64; MOST_ROWS],
+}
+
+/// A problem has no more rows.
+const MOST_ROWS: usize = 64;
+
+/// The largest size of the numbers, 0 if there are none.
+fn largest_size(numbers: &[i64]) -> u64
+    ensures { (i : ℕ) → i < length numbers.now → unsigned_abs (int_at numbers.now i) ≤ result }
+{
+    let mut size = 0;
+    for place in 0..numbers.len() {
+        size = numbers[place].unsigned_abs().max(size);
+    }
+    size
+}
+
+/// The largest size of each row's coefficients.
+fn largest_sizes(rows: &[Items<i64>]) -> [u64; MOST_ROWS]
+    requires { length rows.now ≤ 64 }
+    ensures { (j i : ℕ) → j < length rows.now → i < length (slice_index_or rows.now j [])
+        → unsigned_abs (int_at (slice_index_or rows.now j []) i) ≤ nat_at result j }
+{
+    let mut sizes = [0; MOST_ROWS];
+    for row in 0..rows.len() {
+        sizes[row] = largest_size(rows[row].as_slice());
+    }
+    sizes
 }
 
 impl Model for Problem {
     ghost use Rattle.lin_bound.specs.Problem.{ProblemData, IsLegal};
+    ghost use Rattle.lin_bound.specs.Weights.{IsSized};
 
     ghost Value = { ProblemData };
 
     ghost view = { λ p. record { cost = p.cost; rows = p.rows; rhs = p.rhs; upper = p.upper } };
 
-    ghost invariant = { λ p. IsLegal (record { cost = p.cost; rows = p.rows; rhs = p.rhs; upper = p.upper }) };
+    ghost invariant = { λ p. IsLegal (record { cost = p.cost; rows = p.rows; rhs = p.rhs; upper = p.upper })
+        × IsSized (record { cost = p.cost; rows = p.rows; rhs = p.rhs; upper = p.upper }) p.cost_size p.row_sizes };
 }
 
 impl Problem {
@@ -36,11 +69,15 @@ impl Problem {
         requires { IsLegal (record { cost = cost; rows = rows; rhs = rhs; upper = upper }) }
         ensures { result ≡ record { cost = cost; rows = rows; rhs = rhs; upper = upper } }
     {
+        let cost_size = largest_size(cost.as_slice());
+        let row_sizes = largest_sizes(rows.as_slice());
         Problem {
             cost,
             rows,
             rhs,
             upper,
+            cost_size,
+            row_sizes,
         }
     }
 
@@ -75,6 +112,24 @@ impl Problem {
         ensures legal { IsLegal self.now }
     {
         self.cost.as_slice()
+    }
+
+    /// No cost is larger in size.
+    pub(crate) fn cost_size(&self) -> u64
+        ensures { (i : ℕ) → i < variables self.now →
+            unsigned_abs (int_at self.now.cost i) ≤ result }
+    {
+        self.cost_size
+    }
+
+    /// No coefficient of a row is larger in size.
+    pub(crate) fn row_size(&self, row: usize) -> u64
+        requires { row < row_count self.now }
+        ensures { (i : ℕ) → i < variables self.now →
+            unsigned_abs (coefficient_of self.now row i) ≤ result }
+    {
+        let _legal = self.row_count();
+        self.row_sizes[row]
     }
 
     /// What one unit of each variable adds to a row.

@@ -1,6 +1,6 @@
 //! Boxes of points, and the box that a path leads to.
-ghost use Rattle.std.specs.Prelude.{◌≡◌, length, IfOk};
-ghost use Rattle.lin_bound.specs.Box.{whole_box, half, box_at, Splits, IsPath, IsRegion};
+ghost use Rattle.std.specs.Prelude.{◌≡◌, ◌↔◌, IsTrue, length, IfOk};
+ghost use Rattle.lin_bound.specs.Box.{whole_box, half, box_at, Splits, IsPath, IsTriedBox, IsRegion};
 
 use crate::path::{Branch, Path};
 use crate::problem::Problem;
@@ -15,6 +15,17 @@ pub struct Region {
 }
 
 impl Region {
+    /// Whether the branch divides the box: its variable has room on both sides of `at`.
+    pub fn is_split_by(&self, branch: Branch) -> bool
+        requires { length self.now.low ≡ length self.now.high }
+        ensures { IsTrue result ↔ Splits branch self.now }
+    {
+        let variable = branch.var as usize;
+        let low = self.low.as_slice();
+        let high = self.high.as_slice();
+        variable < low.len() && low[variable] <= branch.at && branch.at < high[variable]
+    }
+
     /// Keeps the half of the box that the branch names, and takes no memory.
     pub fn narrow(&mut self, branch: Branch)
         requires same { length self.old.low ≡ length self.old.high }
@@ -55,4 +66,23 @@ pub fn box_of(alloc: Global, problem: &Problem, path: &Path) -> Result<Region, A
         region.narrow(path.branch(place));
     }
     Ok(region)
+}
+
+/// The box of a path, as `box_of` gives it, or none if a branch doesn't divide the box that those before it leave.
+pub fn try_box_of(
+    alloc: Global,
+    problem: &Problem,
+    path: &Path,
+) -> Result<Option<Region>, AllocError>
+    ensures { IfOk result (λ found. IsTriedBox problem.now path.now found) }
+{
+    let mut region = whole(alloc, problem)?;
+    for place in 0..path.len() {
+        let branch = path.branch(place);
+        if !region.is_split_by(branch) {
+            return Ok(None);
+        }
+        region.narrow(branch);
+    }
+    Ok(Some(region))
 }

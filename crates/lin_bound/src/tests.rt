@@ -162,6 +162,31 @@ fn a_box_that_closes(rt: HostRuntime) -> Result<(), Fail> {
     Ok(())
 }
 
+/// The least number that closes the whole box of `odd_sum` and the box of `two_ones`.
+fn least_closing(alloc: Global, best: Option<i64>) -> Result<[Option<usize>; 2], AllocError> {
+    let odd = odd_sum(alloc)?;
+    let whole = box_of(alloc, &odd, &Path::new(alloc))?;
+    let path = two_ones(alloc, &odd)?;
+    let part = box_of(alloc, &odd, &path)?;
+    Ok([
+        plain_closing(&odd, &whole, best),
+        plain_closing(&odd, &part, best),
+    ])
+}
+
+#[test]
+fn plain_numbers_that_close(rt: HostRuntime) -> Result<(), Fail> {
+    let cases = [
+        (Some(3), [Some(0), Some(0)]),
+        (Some(2), [None, Some(1)]),
+        (None, [None, Some(1)]),
+    ];
+    for (best, numbers) in cases {
+        assert_eq!(rt; least_closing(rt.alloc(), best)?, numbers);
+    }
+    Ok(())
+}
+
 /// The first and last place of each list of `odd_sum`.
 fn told(problem: &Problem) -> [i64; 6]
     requires variables { variables problem.now ≡ 3 }
@@ -224,6 +249,72 @@ fn paths_compared(rt: HostRuntime) -> Result<(), Fail> {
     for (branches, same) in cases {
         assert_eq!(rt; path.is_same(&path_of(rt.alloc(), branches)?), same);
     }
+    Ok(())
+}
+
+/// The box of a path of `odd_sum`, in words.
+fn tried(alloc: Global, path: &Path) -> Result<String, AllocError> {
+    let problem = odd_sum(alloc)?;
+    let Some(region) = try_box_of(alloc, &problem, path)? else {
+        return format!(in alloc; "none");
+    };
+    let mut text = String::new(alloc);
+    for end in region.low.as_slice() {
+        let end = *end;
+        text.push_str(format!(in alloc; " {end}")?.as_str())?;
+    }
+    Ok(text)
+}
+
+/// The boxes of both halves of the whole box of `odd_sum`, split at this place.
+fn both_tried(alloc: Global, var: u32, at: u64) -> Result<[String; 2], AllocError> {
+    let (lower, upper) = Path::new(alloc).halves(alloc, var, at)?;
+    Ok([tried(alloc, &lower)?, tried(alloc, &upper)?])
+}
+
+#[test]
+fn paths_with_and_without_a_box(rt: HostRuntime) -> Result<(), Fail> {
+    let cases = [
+        (2, 0, " 0 0 0", " 0 0 1"),
+        (2, 1, "none", "none"),
+        (3, 0, "none", "none"),
+    ];
+    for (var, at, lower, upper) in cases {
+        let [first, second] = both_tried(rt.alloc(), var, at)?;
+        assert_eq!(rt; first.as_str(), lower);
+        assert_eq!(rt; second.as_str(), upper);
+    }
+    Ok(())
+}
+
+#[test]
+fn a_branch_is_small(rt: HostRuntime) -> Result<(), Fail> {
+    assert_eq!(rt; std::mem::size_of::<Branch>(), 16);
+    Ok(())
+}
+
+/// A copy of the plain multipliers of the first row of `odd_sum`, written over those of the cost.
+fn overwritten(alloc: Global) -> Result<Mult, AllocError> {
+    let problem = odd_sum(alloc)?;
+    let first = plain_mult(alloc, &problem, 1)?.copy(alloc)?;
+    let mut mult = plain_mult(alloc, &problem, 0)?;
+    mult.copy_from(&first);
+    Ok(mult)
+}
+
+/// A copy of a point of three counts, written over another.
+fn moved(alloc: Global) -> Result<Point, AllocError> {
+    let mut point = Point::new(Items::from_slice(alloc, &[1, 1, 1])?);
+    point.copy_from(&[0, 3, 1]);
+    point.copy(alloc)
+}
+
+#[test]
+fn copies_in_place(rt: HostRuntime) -> Result<(), Fail> {
+    let mult = overwritten(rt.alloc())?;
+    assert_eq!(rt; mult.d, 0);
+    assert_eq!(rt; mult.lambda.as_slice(), [1, 0].as_slice());
+    assert_eq!(rt; moved(rt.alloc())?.counts(), [0, 3, 1].as_slice());
     Ok(())
 }
 

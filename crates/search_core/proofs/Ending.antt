@@ -1,6 +1,6 @@
 -- What a search ends with.
 use Rattle.std.proofs.Common.{◌≡◌, ◌≢◌, ℕ, zero, suc, ◌-◌, ◌*◌, ◌<◌, ◌≤◌, List, [], ◌∷◌, length, refl, sym, ap, subst, ◌∙◌, arith, All}
-use Rattle.std.specs.Prelude.{ℤ, Option, Some, slice_index_or, count_by, if◌then◌else◌}
+use Rattle.std.specs.Prelude.{ℤ, Option, None, Some, slice_index_or, count_by, if◌then◌else◌}
 use Rattle.std.proofs.lemmas.List.{append-nil}
 use Rattle.std.proofs.lemmas.List.Sums.{count_by-le-length, sum_by-cons}
 use Rattle.std.proofs.lemmas.List.Elements.{All-weaker, All-nil}
@@ -13,7 +13,7 @@ use Rattle.cert_tree.specs.declared.records.Record.{Record}
 use Rattle.cert_tree.specs.Records.{IsBalanced}
 use Rattle.cert_tree.specs.Trees.{IsAssembled}
 use Rattle.cert_tree.specs.Partial.{PartlyCertify, is_done, IsPartialCertificate}
-use Rattle.cert_tree.specs.Laws.{IsRight, IsPlainlyRight}
+use Rattle.cert_tree.specs.Laws.{IsRight, IsPlainlyRight, WasPlainlyRight}
 use Rattle.cert_tree.specs.Counts.{points_below}
 use Rattle.cert_tree.specs.Multipliers.{ActIsLegal, HasLegalMult}
 use Rattle.cert_tree.proofs.Values.{right_of_plainly}
@@ -21,13 +21,13 @@ use Rattle.cert_tree.proofs.Multipliers.{assembled_legal}
 use Rattle.lin_bound.proofs.Halves.{halves_cover}
 use Rattle.cert_tree.proofs.Counts.{nodes_are_few}
 use Rattle.cert_tree.proofs.Assembled.{assembled_certifies, assembled_parts, assembled_length, assembled_partly}
-use Rattle.search_core.specs.Search.{IsFound, value_in}
+use Rattle.search_core.specs.Search.{Found, IsFound, value_in}
 use Rattle.search_core.specs.Core.{CoreState, begun}
 use Rattle.search_core.specs.Kept.{SeenBelow, IsKept}
+use Rattle.search_core.specs.Runs.{going_on}
 use Rattle.search_core.specs.Solo.{Reaches, IsAdvanced}
 use Rattle.search_core.specs.Solver.{IsProven, IsUndecided, EnoughDecides}
 use Rattle.search_core.specs.declared.solved.Solved.TheVariants.{Best, NoneExists, Undecided}
-use Rattle.search_core.specs.declared.solved.Found.{Found}
 use Rattle.search_core.specs.declared.event.Hand.{Hand}
 use Rattle.search_core.proofs.Keeping.{keeps_run}
 use Rattle.search_core.proofs.Going.{reaches_then}
@@ -38,8 +38,12 @@ pub record Parts (state : CoreState) (records : List Record) (left : List (List 
   pub left_is : left ≡ state.left
   pub best_is : best ≡ state.best
 
-right_parts : (p : ProblemData) (state : CoreState) (records : List Record) (left : List (List Branch)) (best : Option Found) → IsKept p state → Parts state records left best → All (λ (done : Record). IsPlainlyRight p (value_in best) done.path done.act) records
+right_parts : (p : ProblemData) (state : CoreState) (records : List Record) (left : List (List Branch)) (best : Option Found) → IsKept p state → Parts state records left best → All (λ (done : Record). IsPlainlyRight p (value_in best) None done.path done.act) records
 right_parts p state records left best kept parts = rw (parts.records_are, parts.best_is) kept.right
+
+were_parts : (p : ProblemData) (state : CoreState) (records : List Record) (left : List (List Branch)) (best : Option Found) → IsKept p state → Parts state records left best → All (WasPlainlyRight p (value_in best)) records
+were_parts p state records left best kept parts =
+    All-weaker (λ (done : Record). IsPlainlyRight p (value_in best) None done.path done.act) (WasPlainlyRight p (value_in best)) (λ done right. (None, right)) records (right_parts p state records left best kept parts)
 
 -- the tree's boxes and multipliers are right, whatever is left
 pub ends_parts : (p : ProblemData) (state : CoreState) (records : List Record) (left : List (List Branch)) (best : Option Found) (nodes : List TreeNode) → IsKept p state → Parts state records left best → IsAssembled records left nodes → PartlyCertify p (value_in best) (whole_box p ∷ []) nodes
@@ -57,8 +61,9 @@ ends_found p state best found kept same is = subst (IsFound p) (sym same ∙ is)
 pub ends_proven : (p : ProblemData) (state : CoreState) (records : List Record) (left : List (List Branch)) (best : Option Found) (nodes : List TreeNode) → IsKept p state → state.hands ≡ [] → Parts state records left best → left ≡ [] → IsAssembled records left nodes → IsProven state.budget p nodes (value_in best)
 ends_proven p state records left best nodes kept idle parts none assembled =
     let plainly = right_parts p state records left best kept parts in
-    let right = All-weaker (λ (done : Record). IsPlainlyRight p (value_in best) done.path done.act) (λ (done : Record). IsRight p (value_in best) done.path done.act) (λ done is. right_of_plainly p (value_in best) done.path done.act is) records plainly in
+    let right = All-weaker (λ (done : Record). IsPlainlyRight p (value_in best) None done.path done.act) (λ (done : Record). IsRight p (value_in best) done.path done.act) (λ done is. right_of_plainly p (value_in best) None done.path done.act is) records plainly in
     record {
+      mults = ends_legal p state records left nodes kept parts.records_are assembled;
       certificate = assembled_certifies p (value_in best) records nodes (subst (λ (paths : List (List Branch)). IsAssembled records paths nodes) none assembled) right;
       plainly = assembled_parts p (value_in best) records left nodes assembled plainly;
       few = omega (arith, kept.within, assembled_length records left nodes assembled, ap (λ (paths : List (List Branch)). length paths) none, ap (λ (rs : List Record). length rs) parts.records_are);
@@ -68,7 +73,7 @@ pub ends_undecided : (p : ProblemData) (state : CoreState) (records : List Recor
 ends_undecided p state records left best nodes kept idle parts some spent assembled =
     let all = spent (λ none. some (parts.left_is ∙ none)) in
     let done : length records ≡ state.budget = omega (arith, kept.within, all, ap (λ (rs : List Record). length rs) parts.records_are, ap (λ (hs : List Hand). length hs) idle) in
-    subst (λ (n : ℕ). IsPartialCertificate n p nodes (value_in best)) done (assembled_partly p (value_in best) records left nodes assembled (right_parts p state records left best kept parts) some)
+    subst (λ (n : ℕ). IsPartialCertificate n p nodes (value_in best)) done (assembled_partly p (value_in best) records left nodes assembled (were_parts p state records left best kept parts) some)
 
 -- how far a search has gone on
 pub record IsGoing (p : ProblemData) (budget : ℕ) (before now : CoreState) : Type 0 where
@@ -78,9 +83,9 @@ pub record IsGoing (p : ProblemData) (budget : ℕ) (before now : CoreState) : T
   pub budget_is : now.budget ≡ budget
 
 -- it may begin where what is given is balanced and right
-pub may_begin : (p : ProblemData) (budget : ℕ) (records : List Record) (left : List (List Branch)) (best : Option Found) (before : CoreState) → before ≡ record { budget = budget; left = left; hands = []; best = best; records = records } → length records ≤ budget → IsBalanced records left → IsFound p best → All (λ (done : Record). IsPlainlyRight p (value_in best) done.path done.act) records → All (λ (done : Record). ActIsLegal p done.act) records → IsGoing p budget before before
+pub may_begin : (p : ProblemData) (budget : ℕ) (records : List Record) (left : List (List Branch)) (best : Option Found) (before : CoreState) → before ≡ going_on budget records left best → length records ≤ budget → IsBalanced records left → IsFound p best → All (λ (done : Record). IsPlainlyRight p (value_in best) None done.path done.act) records → All (λ (done : Record). ActIsLegal p done.act) records → IsGoing p budget before before
 may_begin p budget records left best before is few balanced found right legal =
-    let here : CoreState = record { budget = budget; left = left; hands = []; best = best; records = records } in
+    let here : CoreState = going_on budget records left best in
     let kept : IsKept p here = record {
       balanced = subst (λ (paths : List (List Branch)). IsBalanced records paths) (sym (append-nil left)) balanced;
       found = found;

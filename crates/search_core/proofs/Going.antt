@@ -16,13 +16,13 @@ use Rattle.lin_bound.proofs.OnePoint.{bound_of_cost}
 use Rattle.lin_bound.proofs.Halves.{halves_cover}
 use Rattle.cert_tree.specs.declared.records.Record.{Record}
 use Rattle.search_core.specs.Boxes.{HasNoRoom, IsOpenBelow}
-use Rattle.search_core.specs.Search.{value_in}
+use Rattle.search_core.specs.Search.{Found, value_in}
 use Rattle.search_core.specs.Nodes.{IsBetter}
-use Rattle.search_core.specs.Core.{CoreState, begun, Holds, IsBusy, IsClosable, HasMore, IsReady, Outcome, in_hand, IsTaken, IsLooked, IsBestOf, IsOffered, IsRecorded, Runs}
+use Rattle.search_core.specs.Moves.{IsLowOf}
+use Rattle.search_core.specs.Core.{CoreState, begun, IsBusy, IsClosable, HasMore, IsReady, Outcome, in_hand, IsTaken, IsLooked, IsBestOf, IsOffered, IsRecorded, Runs}
 use Rattle.search_core.specs.Kept.{IsKept}
 use Rattle.search_core.specs.Solo.{Reaches, IsAlone, IsBegun, IsAdvanced}
-use Rattle.search_core.specs.declared.solved.Found.{Found}
-use Rattle.search_core.specs.declared.node.Proposal.{Proposal}
+use Rattle.search_core.specs.declared.proposal.Proposal.{Proposal}
 use Rattle.search_core.specs.declared.event.Hand.{Hand}
 use Rattle.search_core.specs.declared.event.Seen.TheVariants.{NotLooked, Looked}
 use Rattle.search_core.specs.declared.event.Event.{Event}
@@ -120,7 +120,7 @@ stuck_better p state proposal legal kept alone stuck =
 closes_own : (p : ProblemData) (box : Region) → IsOnePoint p box → Closes p box (plain p 0) (Some (cost_at p box.low))
 closes_own p box one = omega (arith, ints, bound_of_cost p box one)
 
-offered_best : (p : ProblemData) (point : List ℕ) (before after : Option Found) (box : Region) → point ≡ box.low → IsBetter p box (value_in before) → IsBestOf p point before after → after ≡ Some (record { value = cost_at p point; point = point })
+offered_best : (p : ProblemData) (point : List ℕ) (before after : Option Found) (box : Region) → point ≡ box.low → IsBetter p box (value_in before) → IsBestOf p point before after → after ≡ Some (cost_at p point, point)
 offered_best p point before after box is better best = elim best [
   | inl above ↦ above.1
   | inr same ↦ absurd (above_not_below p box.low (value_in before) better.above (subst (λ (x : List ℕ). NotAbove p x (value_in before)) is same.0))
@@ -133,14 +133,14 @@ one_more_record p before after proposal recorded = elim recorded.done [
 ]
 
 -- the point of a stuck node is offered, and the node closed
-pub closes_better : (p : ProblemData) (one two three four : CoreState) (proposal : Proposal) (point : List ℕ) (offers looks handles : Stepped) → IsLegal p → IsKept p one → IsAlone one → ¬ IsReady p one 0 proposal → ((hand : Hand) × Holds one.hands 0 hand × (point ≡ (box_at p hand.path).low)) → Outcome (IsFeasible p point) (IsOffered p one point two) (two ≡ one) offers → Outcome (IsBusy two.hands 0) (IsLooked two 0 three) (three ≡ two) looks → Outcome (IsReady p three 0 proposal) (IsRecorded p three 0 proposal four) (four ≡ three) handles → IsAdvanced p one four
+pub closes_better : (p : ProblemData) (one two three four : CoreState) (proposal : Proposal) (point : List ℕ) (offers looks handles : Stepped) → IsLegal p → IsKept p one → IsAlone one → ¬ IsReady p one 0 proposal → IsLowOf p one 0 point → Outcome (IsFeasible p point) (IsOffered p one point two) (two ≡ one) offers → Outcome (IsBusy two.hands 0) (IsLooked two 0 three) (three ≡ two) looks → Outcome (IsReady p three 0 proposal) (IsRecorded p three 0 proposal four) (four ≡ three) handles → IsAdvanced p one four
 closes_better p one two three four proposal point offers looks handles legal kept alone stuck low offer look handle =
     let hand = alone.hand in
     let box = box_at p hand.path in
     let better = stuck_better p one proposal legal kept alone stuck in
-    let point_is : point ≡ box.low = low.2 ∙ ap (λ (h : Hand). (box_at p h.path).low) (sym (only_hand one.hands hand low.0 alone.only low.1.0)) in
+    let point_is : point ≡ box.low = low hand (value_in one.best) (first_of one.hands [] hand alone.only, alone.worker) alone.looked in
     let offered : IsOffered p one point two = done_if _ _ _ offers offer (rw point_is better.feasible) in
-    let best : two.best ≡ Some (record { value = cost_at p point; point = point }) = offered_best p point one.best two.best box point_is better offered.best in
+    let best : two.best ≡ Some (cost_at p point, point) = offered_best p point one.best two.best box point_is better offered.best in
     let only : IsPermutation two.hands (hand ∷ []) = rw offered.hands alone.only in
     let found = first_of two.hands [] hand only in
     let looked : IsLooked two 0 three = done_if _ _ _ looks look (hand, (found, alone.worker)) in

@@ -1,6 +1,6 @@
 -- When the node in hand is handled, and what that comes to.
 use Rattle.std.proofs.Common.{◌≡◌, ℕ, zero, suc, Bool, true, if◌then◌else◌, ◌+◌, ◌≤◌, List, [], ◌∷◌, ◌++◌, map, remove, sym, ap, subst, ◌∙◌, arith, inl, inr, IsPermutation, Contains, Some}
-use Rattle.std.specs.Prelude.{◌==◌, slice_get, slice_index_or, ℤ, Option, ◌⊎◌}
+use Rattle.std.specs.Prelude.{◌==◌, slice_get, slice_index_or, ℤ, Option, None, ◌⊎◌}
 use Rattle.std.proofs.lemmas.Cmp.{nat_eq_equiv}
 use Rattle.std.proofs.lemmas.List.{length-map, get_or-map}
 use Rattle.std.proofs.lemmas.List.Elements.{All-contains, All-weaker, Contains-append_right}
@@ -8,24 +8,24 @@ use Rattle.std.proofs.lemmas.List.Sums.{sum_by-cons}
 use Rattle.std.proofs.lemmas.List.Sorted.{Contains-permutation, sum_by-IsPermutation, IsPermutation-append_comm, IsPermutation-append_left, IsPermutation-trans, IsPermutation-reverse}
 use Rattle.std.proofs.lemmas.Option.{slice_get_within, get_or_from_slice_get, slice_get-get_or}
 use Rattle.lin_bound.specs.Problem.{ProblemData}
-use Rattle.lin_bound.specs.Box.{box_at, IsPath, IsRegion}
+use Rattle.lin_bound.specs.Box.{box_at, IsPath, IsRegion, lower, upper}
 use Rattle.lin_bound.specs.Bound.{IsMult, Closes, plain}
 use Rattle.lin_bound.specs.declared.region.Region.{Region}
 use Rattle.lin_bound.specs.declared.path.Branch.{Branch}
 use Rattle.lin_bound.specs.declared.mult.Mult.{Mult}
 use Rattle.cert_tree.specs.declared.records.Record.{Record}
 use Rattle.cert_tree.specs.declared.records.Act.TheVariants.{Closed, Split}
-use Rattle.cert_tree.specs.Records.{lower, upper, children_of}
+use Rattle.cert_tree.specs.Records.{children_of}
 use Rattle.cert_tree.specs.Laws.{IsPlainlyRight}
 use Rattle.cert_tree.proofs.Paths.{Divides, divides_plainly, left_paths}
 use Rattle.search_core.specs.Search.{value_in}
 use Rattle.search_core.specs.Nodes.{IsClosed, IsSplit, IsBetter}
-use Rattle.search_core.specs.Core.{CoreState, Holds, IsHeldAt, IsClosable, HasMore, IsReady, IsRecorded}
-use Rattle.search_core.specs.Moves.{IsClosing, IsSplitting}
+use Rattle.search_core.specs.Core.{CoreState, Holds, IsBusy, IsHeldAt, IsClosable, HasMore, IsReady, IsRecorded}
+use Rattle.search_core.specs.Moves.{IsBoxOf, IsClosing, IsSplitting, IsLowOf}
 use Rattle.search_core.specs.Kept.{path_held, one_of, nodes_of, IsKept}
 use Rattle.search_core.specs.declared.event.Hand.{Hand}
 use Rattle.search_core.specs.declared.event.Seen.TheVariants.{Looked}
-use Rattle.search_core.specs.declared.node.Proposal.{Proposal}
+use Rattle.search_core.specs.declared.proposal.Proposal.{Proposal}
 use Rattle.search_core.proofs.Nodes.{closed_not_better, place_splits}
 use Rattle.search_core.proofs.Table.{found_at, taken_out}
 
@@ -88,7 +88,7 @@ at_hand hands worker place found held is =
 pub hand_path : (p : ProblemData) (state : CoreState) (place : ℕ) (hand : Hand) → IsKept p state → slice_get state.hands place ≡ Some hand → IsPath p hand.path
 hand_path p state place hand kept there =
     let paths = state.left ++ map path_held state.hands in
-    let divides = All-weaker (λ (done : Record). IsPlainlyRight p (value_in state.best) done.path done.act) (λ (done : Record). Divides p done.path done.act) (λ done right. divides_plainly p (value_in state.best) done.path done.act right) state.records kept.right in
+    let divides = All-weaker (λ (done : Record). IsPlainlyRight p (value_in state.best) None done.path done.act) (λ (done : Record). Divides p done.path done.act) (λ done right. divides_plainly p (value_in state.best) None done.path done.act right) state.records kept.right in
     All-contains (IsPath p) paths hand.path (left_paths p state.records paths kept.balanced divides)
     (Contains-append_right state.left (map path_held state.hands) hand.path (Contains-map path_held state.hands place hand there))
 
@@ -106,12 +106,35 @@ stuck p state worker place proposal hand seen box kept there of looked box_is re
     not_able p box seen proposal region better
     (subst (λ (v : Option ℤ). IsClosable p box v proposal ⊎ HasMore p box) (sym values) (subst (λ (b : Region). IsClosable p b ready.seen proposal ⊎ HasMore p b) boxes ready.able))
 
+-- the low ends of its box are a point that any looked-at node of the worker has
+pub low_of : (p : ProblemData) (state : CoreState) (worker place : ℕ) (hand : Hand) (box : Region) (point : List ℕ) → IsKept p state → slice_get state.hands place ≡ Some hand → hand.worker ≡ worker → box ≡ box_at p hand.path → point ≡ box.low → IsLowOf p state worker point
+low_of p state worker place hand box point kept there of box_is is =
+    λ other seen held looked.
+    is ∙ (ap (λ (b : Region). b.low) box_is
+    ∙ ap (λ (h : Hand). (box_at p h.path).low) (only_one state.hands worker place hand other (kept.one_each worker) there of held))
+
+-- its box is that of any node of the worker
+pub box_of_hand : (p : ProblemData) (state : CoreState) (worker place : ℕ) (hand : Hand) (box : Region) → IsKept p state → slice_get state.hands place ≡ Some hand → hand.worker ≡ worker → box ≡ box_at p hand.path → IsBoxOf p state worker box
+box_of_hand p state worker place hand box kept there of box_is =
+    λ other held. box_is ∙ ap (λ (h : Hand). box_at p h.path) (only_one state.hands worker place hand other (kept.one_each worker) there of held)
+
+-- and so the worker's box is that of the node at the place
+pub hand_box : (p : ProblemData) (hands : List Hand) (worker place : ℕ) (hand : Hand) (box : Region) → slice_get hands place ≡ Some hand → hand.worker ≡ worker → ((other : Hand) → Holds hands worker other → box ≡ box_at p other.path) → box ≡ box_at p hand.path
+hand_box p hands worker place hand box there of known = known hand (found_at hands place hand there, of)
+
+-- a worker without a node has none, and neither has one whose node was not looked at
+pub low_of_none : (p : ProblemData) (state : CoreState) (worker : ℕ) (point : List ℕ) → ¬ IsBusy state.hands worker → IsLowOf p state worker point
+low_of_none p state worker point idle = λ other seen held looked. absurd (idle (other, held))
+
+pub low_unlooked : (p : ProblemData) (state : CoreState) (worker place : ℕ) (hand : Hand) (point : List ℕ) → IsKept p state → slice_get state.hands place ≡ Some hand → hand.worker ≡ worker → ((value : Option ℤ) → hand.seen ≡ Looked value → ⊥) → IsLowOf p state worker point
+low_unlooked p state worker place hand point kept there of unlooked =
+    λ other seen held looked. absurd (unlooked seen (ap (λ (h : Hand). h.seen) (only_one state.hands worker place hand other (kept.one_each worker) there of held) ∙ looked))
+
 -- a node that is closed
 closable : (p : ProblemData) (box : Region) (seen : Option ℤ) (proposal : Proposal) (chosen : Mult) → IsClosed p box seen proposal chosen → IsClosable p box seen proposal
-closable p box seen proposal chosen closed = elim closed.tried [
-  | inl is ↦ inl (subst (λ (mult : Mult). Closes p box mult seen) is closed.closes)
-  | inr plainly ↦ inr (plainly.0, plainly.1, subst (λ (mult : Mult). Closes p box mult seen) plainly.2 closed.closes)
-]
+closable p box seen proposal chosen (inl proposed) = inl proposed.1
+closable p box seen proposal chosen (inr plainly) =
+    inr (plainly.1.number, plainly.1.within, subst (λ (mult : Mult). Closes p box mult seen) plainly.1.is plainly.1.closes)
 
 pub closed : (p : ProblemData) (before after : CoreState) (worker place : ℕ) (proposal : Proposal) (hand : Hand) (seen : Option ℤ) (box : Region) (chosen : Mult) → slice_get before.hands place ≡ Some hand → hand.worker ≡ worker → hand.seen ≡ Looked seen → box ≡ box_at p hand.path → IsMult p chosen → IsClosed p box seen proposal chosen → IsClosing before place chosen after → IsReady p before worker proposal × IsRecorded p before worker proposal after
 closed p before after worker place proposal hand seen box chosen there of looked box_is legal closes closing =
@@ -128,7 +151,7 @@ closed p before after worker place proposal hand seen box chosen there of looked
         done = inl (record {
           mult = chosen;
           legal = legal;
-          closes = closed_here.closes;
+          closed = closed_here;
           records = closing.moves.records ∙ ap (λ (h : Hand). before.records ++ record { path = h.path; act = Closed chosen } ∷ []) same;
           left = closing.left;
         });

@@ -1,5 +1,5 @@
 -- What a list of events tells of the best point and of the splits.
-use Rattle.std.proofs.Common.{◌≡◌, ℕ, zero, suc, List, [], ◌∷◌, refl, sym, ap, subst, ◌∙◌, arith, inl, inr, Contains}
+use Rattle.std.proofs.Common.{◌≡◌, ℕ, zero, suc, List, [], ◌∷◌, ◌++◌, refl, sym, ap, subst, ◌∙◌, arith, inl, inr, Contains}
 use Rattle.std.specs.Prelude.{ℤ, Option, None, Some, ◌⊎◌}
 use Rattle.std.proofs.lemmas.Int.{ints}
 use Rattle.std.proofs.lemmas.List.Elements.{Contains-push_cases}
@@ -12,11 +12,10 @@ use Rattle.cert_tree.specs.declared.records.Act.TheVariants.{Closed, Split}
 use Rattle.cert_tree.specs.declared.records.Record.{Record}
 use Rattle.cert_tree.specs.Values.{IsAtMost}
 use Rattle.cert_tree.specs.Partial.{PlainlyOpen}
-use Rattle.search_core.specs.Search.{value_in}
-use Rattle.search_core.specs.Core.{CoreState, IsRecorded, IsBestOf, Performs, IsEnabled, Steps, Runs}
+use Rattle.search_core.specs.Search.{Found, value_in}
+use Rattle.search_core.specs.Core.{CoreState, Holds, IsRecorded, IsBestOf, Performs, IsEnabled, Steps, Runs}
 use Rattle.search_core.specs.Runs.{BestIsOffered, WasOpen, SplitsWereOpen}
-use Rattle.search_core.specs.declared.solved.Found.{Found}
-use Rattle.search_core.specs.declared.node.Proposal.{Proposal}
+use Rattle.search_core.specs.declared.proposal.Proposal.{Proposal}
 use Rattle.search_core.specs.declared.event.Hand.{Hand}
 use Rattle.search_core.specs.declared.event.Seen.TheVariants.{Looked}
 use Rattle.search_core.specs.declared.event.Event.{Event}
@@ -35,7 +34,7 @@ later one other xs found = (suc found.0, omega (arith, found.1), found.2)
 
 -- what an event does to the best
 abbrev best_with : ProblemData → List ℕ → Option Found
-best_with p point = Some (record { value = cost_at p point; point = point })
+best_with p point = Some (cost_at p point, point)
 
 abbrev BestStep : ProblemData → CoreState → Event → CoreState → Type 0
 BestStep p before event after = (after.best ≡ before.best) ⊎ ((worker : ℕ) × (point : List ℕ) × (event ≡ Offer worker point) × IsFeasible p point × (after.best ≡ best_with p point))
@@ -119,17 +118,30 @@ best_is_offered p before after (event ∷ events) runs =
           ];
     }
 
--- a record that an event makes is one that stood there, or a node in hand whose box was plainly open
-abbrev IsOpenNow : ProblemData → CoreState → List Branch → Type 0
-IsOpenNow p before path = (hand : Hand) × (seen : Option ℤ) × Contains before.hands hand × (hand.path ≡ path) × (hand.seen ≡ Looked seen) × PlainlyOpen p (box_at p path) seen
-
+-- a record that an event makes was there before, or the event split the box of a node in hand
 abbrev split_at : List Branch → ℕ → ℕ → Mult → Record
 split_at path var at mult = record { path = path; act = Split var at mult }
+
+record IsSplitNow (p : ProblemData) (before : CoreState) (event : Event) (after : CoreState) (path : List Branch) (var at : ℕ) (mult : Mult) : Type 0 where
+  pub worker : ℕ
+  pub proposal : Proposal
+  pub event_is : event ≡ Handle worker proposal
+  pub mult_is : mult ≡ proposal.mult
+  pub hand : Hand
+  pub held : Holds before.hands worker hand
+  pub path_is : hand.path ≡ path
+  pub seen : Option ℤ
+  pub looked : hand.seen ≡ Looked seen
+  pub plainly : PlainlyOpen p (box_at p path) seen
+  pub made : after.records ≡ before.records ++ split_at path var at mult ∷ []
 
 not_closed : (mult : Mult) (var at : ℕ) (other : Mult) → Closed mult ≡ Split var at other → ⊥
 not_closed mult var at other same = cc
 
-from_record : (p : ProblemData) (before after : CoreState) (worker : ℕ) (proposal : Proposal) (path : List Branch) (var at : ℕ) (mult : Mult) → IsRecorded p before worker proposal after → Contains after.records (split_at path var at mult) → Contains before.records (split_at path var at mult) ⊎ IsOpenNow p before path
+same_mult : (var at var' at' : ℕ) (mult other : Mult) → Split var at mult ≡ Split var' at' other → mult ≡ other
+same_mult var at var' at' mult other same = cc
+
+from_record : (p : ProblemData) (before after : CoreState) (worker : ℕ) (proposal : Proposal) (path : List Branch) (var at : ℕ) (mult : Mult) → IsRecorded p before worker proposal after → Contains after.records (split_at path var at mult) → Contains before.records (split_at path var at mult) ⊎ IsSplitNow p before (Handle worker proposal) after path var at mult
 from_record p before after worker proposal path var at mult recorded found =
     let done = split_at path var at mult in
     elim recorded.done [
@@ -141,32 +153,77 @@ from_record p before after worker proposal path var at mult recorded found =
         | inl stood ↦ inl stood
         | inr same ↦
             let path_is : recorded.hand.path ≡ path = ap (λ (r : Record). r.path) same in
-            inr (recorded.hand, recorded.seen, recorded.held.0, path_is, recorded.looked, subst (λ (some : List Branch). PlainlyOpen p (box_at p some) recorded.seen) path_is split.plainly)
+            inr (record {
+              worker = worker;
+              proposal = proposal;
+              event_is = refl;
+              mult_is = sym (same_mult split.var split.at var at proposal.mult mult (ap (λ (r : Record). r.act) same));
+              hand = recorded.hand;
+              held = recorded.held;
+              path_is = path_is;
+              seen = recorded.seen;
+              looked = recorded.looked;
+              plainly = subst (λ (some : List Branch). PlainlyOpen p (box_at p some) recorded.seen) path_is split.plainly;
+              made = split.records ∙ ap (λ (r : Record). before.records ++ r ∷ []) same;
+            })
       ]
     ]
 
 stands : (records other : List Record) (done : Record) → other ≡ records → Contains other done → Contains records done
 stands records other done same found = subst (λ (rs : List Record). Contains rs done) same found
 
-from_event : (p : ProblemData) (before after : CoreState) (event : Event) (path : List Branch) (var at : ℕ) (mult : Mult) → Performs p before event after → Contains after.records (split_at path var at mult) → Contains before.records (split_at path var at mult) ⊎ IsOpenNow p before path
+from_event : (p : ProblemData) (before after : CoreState) (event : Event) (path : List Branch) (var at : ℕ) (mult : Mult) → Performs p before event after → Contains after.records (split_at path var at mult) → Contains before.records (split_at path var at mult) ⊎ IsSplitNow p before event after path var at mult
 from_event p before after (Take worker taken) path var at mult performs found = inl (stands before.records after.records (split_at path var at mult) performs.records found)
 from_event p before after (Look worker) path var at mult performs found = inl (stands before.records after.records (split_at path var at mult) performs.records found)
 from_event p before after (Handle worker proposal) path var at mult performs found = from_record p before after worker proposal path var at mult performs found
 from_event p before after (Offer worker point) path var at mult performs found = inl (stands before.records after.records (split_at path var at mult) performs.records found)
 from_event p before after (Drop worker) path var at mult performs found = inl (stands before.records after.records (split_at path var at mult) performs.records found)
 
-from_step : (p : ProblemData) (before after : CoreState) (event : Event) (outcome : Stepped) (path : List Branch) (var at : ℕ) (mult : Mult) → Steps p before event outcome after → Contains after.records (split_at path var at mult) → Contains before.records (split_at path var at mult) ⊎ IsOpenNow p before path
-from_step p before after event Done path var at mult steps found = from_event p before after event path var at mult steps.1 found
-from_step p before after event NotEnabled path var at mult steps found = inl (subst (λ (s : CoreState). Contains s.records (split_at path var at mult)) steps.1 found)
+-- the event that made the record comes first
+now : (p : ProblemData) (before middle after : CoreState) (event : Event) (events : List Event) (path : List Branch) (var at : ℕ) (mult : Mult) → IsEnabled p before event → Performs p before event middle → Runs p middle events after → IsSplitNow p before event middle path var at mult → WasOpen p before after (event ∷ events) path var at mult
+now p before middle after event events path var at mult enabled performs runs here = record {
+  past = [];
+  worker = here.worker;
+  proposal = here.proposal;
+  later = events;
+  whole = ap (λ (e : Event). e ∷ events) here.event_is;
+  mult_is = here.mult_is;
+  moment = before;
+  next = middle;
+  reached = refl;
+  enabled = subst (IsEnabled p before) here.event_is enabled;
+  performed = subst (λ (e : Event). Performs p before e middle) here.event_is performs;
+  onward = runs;
+  hand = here.hand;
+  held = here.held;
+  path_is = here.path_is;
+  seen = here.seen;
+  looked = here.looked;
+  plainly = here.plainly;
+  made = here.made;
+}
+
+from_step : (p : ProblemData) (before middle after : CoreState) (event : Event) (events : List Event) (outcome : Stepped) (path : List Branch) (var at : ℕ) (mult : Mult) → Steps p before event outcome middle → Runs p middle events after → Contains middle.records (split_at path var at mult) → Contains before.records (split_at path var at mult) ⊎ WasOpen p before after (event ∷ events) path var at mult
+from_step p before middle after event events Done path var at mult steps runs found = elim (from_event p before middle event path var at mult steps.1 found) [
+  | inl stood ↦ inl stood
+  | inr here ↦ inr (now p before middle after event events path var at mult steps.0 steps.1 runs here)
+]
+from_step p before middle after event events NotEnabled path var at mult steps runs found = inl (subst (λ (s : CoreState). Contains s.records (split_at path var at mult)) steps.1 found)
 
 -- what was open with fewer events before it was open with one more
-sooner : (p : ProblemData) (before middle after : CoreState) (event : Event) (events : List Event) (outcome : Stepped) (path : List Branch) → Steps p before event outcome middle → WasOpen p middle after events path → WasOpen p before after (event ∷ events) path
-sooner p before middle after event events outcome path steps was = record {
+sooner : (p : ProblemData) (before middle after : CoreState) (event : Event) (events : List Event) (outcome : Stepped) (path : List Branch) (var at : ℕ) (mult : Mult) → Steps p before event outcome middle → WasOpen p middle after events path var at mult → WasOpen p before after (event ∷ events) path var at mult
+sooner p before middle after event events outcome path var at mult steps was = record {
   past = event ∷ was.past;
+  worker = was.worker;
+  proposal = was.proposal;
   later = was.later;
   whole = ap (λ (rest : List Event). event ∷ rest) was.whole;
+  mult_is = was.mult_is;
   moment = was.moment;
+  next = was.next;
   reached = (outcome, middle, steps, was.reached);
+  enabled = was.enabled;
+  performed = was.performed;
   onward = was.onward;
   hand = was.hand;
   held = was.held;
@@ -174,22 +231,7 @@ sooner p before middle after event events outcome path steps was = record {
   seen = was.seen;
   looked = was.looked;
   plainly = was.plainly;
-}
-
-now : (p : ProblemData) (before after : CoreState) (events : List Event) (path : List Branch) → Runs p before events after → IsOpenNow p before path → WasOpen p before after events path
-now p before after events path runs here = record {
-  past = [];
-  later = events;
-  whole = refl;
-  moment = before;
-  reached = refl;
-  onward = runs;
-  hand = here.0;
-  held = here.2;
-  path_is = here.3;
-  seen = here.1;
-  looked = here.4;
-  plainly = here.5;
+  made = was.made;
 }
 
 pub splits_were_open : SplitsWereOpen
@@ -197,9 +239,6 @@ splits_were_open p before after [] path var at mult runs found = inl (subst (λ 
 splits_were_open p before after (event ∷ events) path var at mult runs found =
     let middle : CoreState = runs.1 in
     elim (splits_were_open p middle after events path var at mult runs.3 found) [
-      | inr was ↦ inr (sooner p before middle after event events runs.0 path runs.2 was)
-      | inl there ↦ elim (from_step p before middle event runs.0 path var at mult runs.2 there) [
-        | inl stood ↦ inl stood
-        | inr here ↦ inr (now p before after (event ∷ events) path runs here)
-      ]
+      | inr was ↦ inr (sooner p before middle after event events runs.0 path var at mult runs.2 was)
+      | inl there ↦ from_step p before middle after event events runs.0 path var at mult runs.2 runs.3 there
     ]

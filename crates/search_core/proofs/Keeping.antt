@@ -16,12 +16,14 @@ use Rattle.cert_tree.specs.Laws.{IsPlainlyRight}
 use Rattle.cert_tree.specs.Multipliers.{ActIsLegal}
 use Rattle.cert_tree.specs.Values.{IsAtMost}
 use Rattle.cert_tree.proofs.Values.{closes_more, plainly_open_none, plainly_right_more}
-use Rattle.search_core.specs.Search.{IsFound, value_in}
-use Rattle.search_core.specs.Nodes.{IsAbove}
+use Rattle.search_core.specs.Search.{Found, IsFound, value_in}
+use Rattle.lin_bound.specs.Bound.{Closes}
+use Rattle.lin_bound.specs.declared.region.Region.{Region}
+use Rattle.lin_bound.specs.declared.mult.Mult.{Mult}
+use Rattle.search_core.specs.Nodes.{IsAbove, IsClosed}
 use Rattle.search_core.specs.Core.{CoreState, begun, IsBusy, in_hand, IsEnabled, IsTaken, IsLooked, IsBestOf, IsOffered, IsClosedBy, IsSplitBy, IsRecorded, IsDropped, Performs, Steps, Runs}
 use Rattle.search_core.specs.Kept.{path_held, one_of, SeenBelow, IsKept}
-use Rattle.search_core.specs.declared.solved.Found.{Found}
-use Rattle.search_core.specs.declared.node.Proposal.{Proposal}
+use Rattle.search_core.specs.declared.proposal.Proposal.{Proposal}
 use Rattle.search_core.specs.declared.event.Hand.{Hand}
 use Rattle.search_core.specs.declared.event.Seen.{Seen}
 use Rattle.search_core.specs.declared.event.Seen.TheVariants.{NotLooked, Looked}
@@ -102,7 +104,7 @@ keeps_offer p before after point feasible kept offered =
     record {
       balanced = rw (offered.records, offered.left, offered.hands) kept.balanced;
       found = best_found p point before.best after.best feasible kept.found offered.best;
-      right = rw offered.records (All-weaker (λ (done : Record). IsPlainlyRight p (value_in before.best) done.path done.act) (λ (done : Record). IsPlainlyRight p (value_in after.best) done.path done.act) (λ done is. plainly_right_more p (value_in before.best) (value_in after.best) done.path done.act more is) before.records kept.right);
+      right = rw offered.records (All-weaker (λ (done : Record). IsPlainlyRight p (value_in before.best) None done.path done.act) (λ (done : Record). IsPlainlyRight p (value_in after.best) None done.path done.act) (λ done is. plainly_right_more p (value_in before.best) (value_in after.best) None done.path done.act more is) before.records kept.right);
       legal = rw offered.records kept.legal;
       one_each = rw offered.hands kept.one_each;
       seen = rw offered.hands (All-weaker (λ (h : Hand). SeenBelow (value_in before.best) h.seen) (λ (h : Hand). SeenBelow (value_in after.best) h.seen) (λ h below. seen_more (value_in before.best) (value_in after.best) h.seen more below) before.hands kept.seen);
@@ -111,7 +113,7 @@ keeps_offer p before after point feasible kept offered =
 
 -- a node in hand that is recorded, once its act is right
 pub record IsDoneWith (p : ProblemData) (before : CoreState) (hand : Hand) (act : Act) (after : CoreState) : Type 0 where
-  pub right : IsPlainlyRight p (value_in before.best) hand.path act
+  pub right : IsPlainlyRight p (value_in before.best) None hand.path act
   pub legal : ActIsLegal p act
   pub records : after.records ≡ before.records ++ record { path = hand.path; act = act } ∷ []
   pub to_do : IsPermutation (to_do after.left after.hands) (to_do before.left after.hands ++ children_of hand.path act)
@@ -123,7 +125,7 @@ keeps_done p before after hand act kept moved budget best done =
     record {
       balanced = rw done.records (rebalance (before.records ++ new ∷ []) (to_do before.left after.hands ++ children_of hand.path act) (to_do after.left after.hands) done.to_do (recorded before.records before.left before.hands after.hands hand act moved kept.balanced));
       found = rw best kept.found;
-      right = rw (done.records, best) (All-push (λ (r : Record). IsPlainlyRight p (value_in before.best) r.path r.act) before.records new kept.right done.right);
+      right = rw (done.records, best) (All-push (λ (r : Record). IsPlainlyRight p (value_in before.best) None r.path r.act) before.records new kept.right done.right);
       legal = rw done.records (All-push (λ (r : Record). ActIsLegal p r.act) before.records new kept.legal done.legal);
       one_each = λ w. omega (arith, kept.one_each w, one_more w before.hands after.hands hand moved);
       seen = rw best (all_rest P hand after.hands (All-permutation P before.hands (hand ∷ after.hands) moved kept.seen));
@@ -148,10 +150,15 @@ pub seen_at_most : (p : ProblemData) (state : CoreState) (hand : Hand) (seen : O
 seen_at_most p state hand seen kept held looked =
     seen_value (value_in state.best) seen hand.seen looked (All-contains (λ (h : Hand). SeenBelow (value_in state.best) h.seen) state.hands hand kept.seen held)
 
-keeps_close : (p : ProblemData) (before after : CoreState) (hand : Hand) (seen : Option ℤ) → IsKept p before → Contains before.hands hand → hand.seen ≡ Looked seen → IsPermutation before.hands (hand ∷ after.hands) → after.budget ≡ before.budget → after.best ≡ before.best → IsClosedBy p before hand seen after → IsKept p after
-keeps_close p before after hand seen kept held looked moved budget best closed =
+-- the multipliers chosen close the box
+closes_chosen : (p : ProblemData) (box : Region) (seen : Option ℤ) (proposal : Proposal) (chosen : Mult) → IsClosed p box seen proposal chosen → Closes p box chosen seen
+closes_chosen p box seen proposal chosen (inl proposed) = subst (λ (mult : Mult). Closes p box mult seen) (sym proposed.0) proposed.1
+closes_chosen p box seen proposal chosen (inr plainly) = plainly.1.closes
+
+keeps_close : (p : ProblemData) (before after : CoreState) (hand : Hand) (seen : Option ℤ) (proposal : Proposal) → IsKept p before → Contains before.hands hand → hand.seen ≡ Looked seen → IsPermutation before.hands (hand ∷ after.hands) → after.budget ≡ before.budget → after.best ≡ before.best → IsClosedBy p before hand seen proposal after → IsKept p after
+keeps_close p before after hand seen proposal kept held looked moved budget best closed =
     keeps_done p before after hand (Closed closed.mult) kept moved budget best (record {
-      right = closes_more p (box_at p hand.path) closed.mult seen (value_in before.best) (seen_at_most p before hand seen kept held looked) closed.closes;
+      right = closes_more p (box_at p hand.path) closed.mult seen (value_in before.best) (seen_at_most p before hand seen kept held looked) (closes_chosen p (box_at p hand.path) seen proposal closed.mult closed.closed);
       legal = closed.legal;
       records = closed.records;
       to_do = nothing_more before.left after.left after.hands closed.left;
@@ -168,7 +175,7 @@ keeps_split p before after hand seen proposal kept moved budget best split =
 
 keeps_handle : (p : ProblemData) (before after : CoreState) (worker : ℕ) (proposal : Proposal) → IsKept p before → IsRecorded p before worker proposal after → IsKept p after
 keeps_handle p before after worker proposal kept recorded = elim recorded.done [
-  | inl closed ↦ keeps_close p before after recorded.hand recorded.seen kept recorded.held.0 recorded.looked recorded.hands recorded.budget recorded.best closed
+  | inl closed ↦ keeps_close p before after recorded.hand recorded.seen proposal kept recorded.held.0 recorded.looked recorded.hands recorded.budget recorded.best closed
   | inr split ↦ keeps_split p before after recorded.hand recorded.seen proposal kept recorded.hands recorded.budget recorded.best split
 ]
 

@@ -1,4 +1,5 @@
 mod Steps
+mod Moving
 pub mod Nodes
 mod Table
 mod Handling

@@ -3,18 +3,17 @@ use Rattle.std.proofs.Common.{ℕ, ◌+◌, List, arith, inl, inr}
 use Rattle.std.specs.Prelude.{ℤ, pos, ◌+ℤ◌, Option, None, Some}
 use Rattle.std.proofs.lemmas.Int.{ints, by_lt_z}
 use Rattle.lin_bound.specs.Problem.{ProblemData, row_count, cost_at}
-use Rattle.lin_bound.specs.Box.{IsRegion, IsInBox, IsOnePoint, Splits}
+use Rattle.lin_bound.specs.Box.{IsRegion, IsInBox, IsOnePoint, Splits, lower}
 use Rattle.lin_bound.specs.Bound.{Closes, plain}
 use Rattle.lin_bound.specs.Laws.{NotAbove}
 use Rattle.lin_bound.specs.declared.region.Region.{Region}
 use Rattle.lin_bound.specs.declared.mult.Mult.{Mult}
 use Rattle.lin_bound.proofs.OnePoint.{bound_of_cost}
 use Rattle.lin_bound.proofs.Duality.{closed_holds_none}
-use Rattle.cert_tree.specs.Records.{lower}
 use Rattle.cert_tree.specs.Partial.{PlainlyOpen}
 use Rattle.search_core.specs.Boxes.{HasRoom, HasNoRoom, IsOpenBelow}
 use Rattle.search_core.specs.Nodes.{IsSplitAt, IsAbove, IsBetter}
-use Rattle.search_core.specs.declared.node.Proposal.{Proposal}
+use Rattle.search_core.specs.declared.proposal.Proposal.{Proposal}
 use Rattle.search_core.proofs.Steps.{one_point, open_feasible}
 
 -- where a box is split there is room

@@ -1,5 +1,5 @@
 -- A box of one point that no plain multipliers close is a feasible point.
-use Rattle.std.proofs.Common.{◌≡◌, ℕ, suc, ◌+◌, ◌<◌, refl, arith, below_more}
+use Rattle.std.proofs.Common.{ℕ, suc, ◌+◌, ◌<◌, refl, arith}
 use Rattle.std.specs.Prelude.{ℤ, pos, ◌+ℤ◌, ◌<ℤ◌, Option, None, Some}
 use Rattle.std.proofs.lemmas.Int.{ints, by_lt_z}
 use Rattle.std.proofs.Math.IntN.{zero-*ℤ}
@@ -8,7 +8,6 @@ use Rattle.lin_bound.specs.Problem.{ProblemData, row_count, row_at, IsFeasible}
 use Rattle.lin_bound.specs.Box.{IsRegion, IsOnePoint}
 use Rattle.lin_bound.specs.Bound.{Closes, plain}
 use Rattle.lin_bound.specs.declared.region.Region.{Region}
-use Rattle.lin_bound.specs.declared.mult.Mult.{Mult}
 use Rattle.lin_bound.proofs.OnePoint.{bound_of_row, point_feasible}
 use Rattle.search_core.specs.Boxes.{HasNoRoom, IsOpenBelow}
 
@@ -29,8 +28,3 @@ open_feasible p box best region one none =
     by_lt_z (int_at p.rhs j) (row_at p j box.low)
     (λ lt. absurd (none (suc j) (omega (arith, h)) (broken_closes p box best j h lt one)))
     (λ le. le))
-
--- one more number that closes nothing
-pub open_more : (p : ProblemData) (box : Region) (best : Option ℤ) (n : ℕ) (mult : Mult) → mult ≡ plain p n → ¬ Closes p box mult best → IsOpenBelow p box best n → IsOpenBelow p box best (n + 1)
-open_more p box best n mult mult_is leaves below =
-    below_more (λ (number : ℕ). ¬ Closes p box (plain p number) best) n below (λ closes. leaves (rw mult_is closes))

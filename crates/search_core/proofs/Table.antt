@@ -5,10 +5,11 @@ use Rattle.std.proofs.lemmas.List.{set_split, set-get_or, append_assoc}
 use Rattle.std.proofs.lemmas.List.Sorted.{IsPermutation-remove, IsPermutation-middle, IsPermutation-to_front}
 use Rattle.std.proofs.lemmas.Option.{slice_get_within, get_or_from_slice_get, slice_get-get_or, slice_get_read}
 use Rattle.lin_bound.specs.declared.path.Branch.{Branch}
-use Rattle.cert_tree.specs.Records.{lower, upper}
+use Rattle.lin_bound.specs.Box.{lower, upper}
 use Rattle.search_core.specs.declared.event.Hand.{Hand}
 use Rattle.search_core.specs.declared.event.Seen.TheVariants.{NotLooked, Looked}
 use Rattle.search_core.specs.Search.{value_in}
+use Rattle.search_core.specs.Moves.{IsLastTaken}
 use Rattle.search_core.specs.Core.{CoreState, Holds, IsBusy, IsHeldAt, in_hand, Replaced, IsTaken, IsLooked, IsDropped}
 
 -- what stands at a place is among them, and the others are what is left without it
@@ -104,12 +105,15 @@ both_open old reserved one two hands place got seen below above var at within go
     second ∙ (ap (λ (paths : List (List Branch)). paths ++ below ∷ []) (first ∙ ap (λ (paths : List (List Branch)). paths ++ above ∷ []) kept) ∙ (append_assoc old (above ∷ []) (below ∷ []) ∙ (ap (λ (path : List Branch). old ++ path ∷ (below ∷ [])) high ∙ ap (λ (path : List Branch). old ++ (got.path ++ upper var at ∷ []) ∷ (path ∷ [])) low)))
 
 -- the path that was opened last moves to a hand
-pub taken_last : (before after : CoreState) (worker : ℕ) (path : List Branch) → before.left ≡ after.left ++ path ∷ [] → after.hands ≡ before.hands ++ in_hand worker path NotLooked ∷ [] → after.budget ≡ before.budget → after.best ≡ before.best → after.records ≡ before.records → IsTaken before worker path after
-taken_last before after worker path left hands budget best records =
-    record {
-      left = rw left (IsPermutation-to_front after.left path);
-      hands = rw hands (IsPermutation-to_front before.hands (in_hand worker path NotLooked));
-      budget = budget;
-      best = best;
-      records = records;
-    }
+pub taken_last : (before after : CoreState) (worker : ℕ) (path : List Branch) → before.left ≡ after.left ++ path ∷ [] → after.hands ≡ before.hands ++ in_hand worker path NotLooked ∷ [] → after.budget ≡ before.budget → after.best ≡ before.best → after.records ≡ before.records → IsLastTaken before worker after
+taken_last before after worker path left hands budget best records = record {
+  path = path;
+  last = left;
+  taken = record {
+    left = rw left (IsPermutation-to_front after.left path);
+    hands = rw hands (IsPermutation-to_front before.hands (in_hand worker path NotLooked));
+    budget = budget;
+    best = best;
+    records = records;
+  };
+}

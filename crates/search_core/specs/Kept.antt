@@ -1,5 +1,7 @@
+-- Private: the invariant of the machine.
 -- What holds of a search after any list of events.
 use Rattle.std.specs.Prelude.{ℕ, ◌≤◌, ◌==◌, if◌then◌else◌, List, ◌++◌, map, All, sum_by, ℤ, Option}
+use Rattle.std.specs.Prelude.{None}
 use Rattle.lin_bound.specs.Problem.{ProblemData}
 use Rattle.lin_bound.specs.declared.path.Branch.{Branch}
 use Rattle.cert_tree.specs.declared.records.Record.{Record}
@@ -28,13 +30,16 @@ abbrev pub SeenBelow : Option ℤ → Seen → Type 0
 SeenBelow best NotLooked = Unit {0}
 SeenBelow best (Looked seen) = IsAtMost seen best
 
--- Records with open paths and nodes in hand are balanced. The best value is that of a feasible point. Each closed record
--- is closed for the best value, or for no value while there is none. Each split record divides its box, which was plainly
--- open. No worker has two nodes, none looked at a value above the best, and no more nodes were begun than may be.
+-- Records with open paths and nodes in hand are balanced. The best value is that of a feasible
+-- point. Each closed record is closed for the best value, or for no value while there is none. Each
+-- split record divides its box, which was plainly open. No worker has two nodes, none looked at a
+-- value above the best, and no more nodes were begun than may be.
 pub record IsKept (p : ProblemData) (state : CoreState) : Type 0 where
   pub balanced : IsBalanced state.records (state.left ++ map path_held state.hands)
   pub found : IsFound p state.best
-  pub right : All (λ (done : Record). IsPlainlyRight p (value_in state.best) done.path done.act) state.records
+  pub right : All
+      (λ (done : Record). IsPlainlyRight p (value_in state.best) None done.path done.act)
+      state.records
   pub legal : All (λ (done : Record). ActIsLegal p done.act) state.records
   pub one_each : (worker : ℕ) → nodes_of worker state.hands ≤ 1
   pub seen : All (λ (hand : Hand). SeenBelow (value_in state.best) hand.seen) state.hands

@@ -1,3 +1,4 @@
+-- Private: the laws of the machine.
 -- What is known of a search after any list of events of any number of workers.
 use Rattle.std.specs.Prelude.{◌≡◌, ℕ, List, [], ◌∷◌, ◌++◌, Contains, ℤ, Option, None, Some, ◌⊎◌}
 use Rattle.lin_bound.specs.Problem.{ProblemData, cost_at, IsFeasible}
@@ -7,13 +8,15 @@ use Rattle.lin_bound.specs.declared.path.Branch.{Branch}
 use Rattle.lin_bound.specs.declared.mult.Mult.{Mult}
 use Rattle.cert_tree.specs.declared.records.Act.TheVariants.{Split}
 use Rattle.cert_tree.specs.Partial.{PlainlyOpen}
-use Rattle.search_core.specs.Search.{value_in}
-use Rattle.search_core.specs.Core.{CoreState, Runs}
+use Rattle.cert_tree.specs.declared.records.Record.{Record}
+use Rattle.search_core.specs.Search.{Found, value_in}
+use Rattle.search_core.specs.Core.{CoreState, Holds, IsEnabled, Performs, Runs}
 use Rattle.search_core.specs.Kept.{IsKept}
 use Rattle.search_core.specs.declared.event.Seen.TheVariants.{Looked}
 use Rattle.search_core.specs.declared.event.Hand.{Hand}
+use Rattle.search_core.specs.declared.proposal.Proposal.{Proposal}
 use Rattle.search_core.specs.declared.event.Event.{Event}
-use Rattle.search_core.specs.declared.event.Event.TheVariants.{Offer}
+use Rattle.search_core.specs.declared.event.Event.TheVariants.{Handle, Offer}
 
 -- a problem, and where its search stands
 pub record CoreData : Type 0 where
@@ -24,6 +27,11 @@ pub record CoreData : Type 0 where
 abbrev pub start : ℕ → CoreState
 start budget = record { budget = budget; left = [] ∷ []; hands = []; best = None; records = [] }
 
+-- the state of a search that goes on with these records and open paths
+abbrev pub going_on : ℕ → List Record → List (List Branch) → Option Found → CoreState
+going_on budget records left best =
+    record { budget = budget; left = left; hands = []; best = best; records = records }
+
 -- What holds of a search holds after any list of events.
 abbrev pub RunsKeep : Type 0
 RunsKeep = (p : ProblemData) (before after : CoreState) (events : List Event)
@@ -31,33 +39,55 @@ RunsKeep = (p : ProblemData) (before after : CoreState) (events : List Event)
 
 -- a feasible point is offered by one of the events
 abbrev pub IsOfferedIn : ProblemData → List Event → List ℕ → Type 0
-IsOfferedIn p events point = IsFeasible p point × ((worker : ℕ) × Contains events (Offer worker point))
+IsOfferedIn p events point =
+    IsFeasible p point × ((worker : ℕ) × Contains events (Offer worker point))
 
 -- the best is that of before or the offered point, and no offered point is above it
-pub record IsBestOffered (p : ProblemData) (before after : CoreState) (events : List Event) : Type 0 where
-  pub offered : (after.best ≡ before.best) ⊎ ((point : List ℕ) × IsOfferedIn p events point × (after.best ≡ Some (record { value = cost_at p point; point = point })))
-  pub greatest : (point : List ℕ) → IsOfferedIn p events point → NotAbove p point (value_in after.best)
+pub record IsBestOffered (p : ProblemData) (before after : CoreState)
+    (events : List Event) : Type 0 where
+  pub offered : (after.best ≡ before.best)
+      ⊎ ((point : List ℕ) × IsOfferedIn p events point
+      × (after.best ≡ Some (cost_at p point, point)))
+  pub greatest : (point : List ℕ) → IsOfferedIn p events point
+      → NotAbove p point (value_in after.best)
 
 abbrev pub BestIsOffered : Type 0
-BestIsOffered = (p : ProblemData) (before after : CoreState) (events : List Event) → Runs p before events after → IsBestOffered p before after events
+BestIsOffered =
+    (p : ProblemData) (before after : CoreState) (events : List Event)
+    → Runs p before events after → IsBestOffered p before after events
 
--- between two of the events a worker had this path in hand, had looked at a value, and the box was plainly open for it
-pub record WasOpen (p : ProblemData) (before after : CoreState) (events : List Event) (path : List Branch) : Type 0 where
+-- one of the events split the box of this path under these multipliers: the worker had the path in
+-- hand and had looked at a value, for which the box was plainly open, and the event made this
+-- record
+pub record WasOpen (p : ProblemData) (before after : CoreState) (events : List Event)
+    (path : List Branch) (var at : ℕ) (mult : Mult) : Type 0 where
   pub past : List Event
+  pub worker : ℕ
+  pub proposal : Proposal
   pub later : List Event
-  pub whole : events ≡ past ++ later
+  pub whole : events ≡ past ++ Handle worker proposal ∷ later
+  pub mult_is : mult ≡ proposal.mult
   pub moment : CoreState
+  pub next : CoreState
   pub reached : Runs p before past moment
-  pub onward : Runs p moment later after
+  pub enabled : IsEnabled p moment (Handle worker proposal)
+  pub performed : Performs p moment (Handle worker proposal) next
+  pub onward : Runs p next later after
   pub hand : Hand
-  pub held : Contains moment.hands hand
+  pub held : Holds moment.hands worker hand
   pub path_is : hand.path ≡ path
   pub seen : Option ℤ
   pub looked : hand.seen ≡ Looked seen
   pub plainly : PlainlyOpen p (box_at p path) seen
+  pub made : next.records ≡ moment.records ++ record { path = path; act = Split var at mult } ∷ []
 
--- Each split record stood there before, or its box was plainly open for the value that its worker had looked at.
+-- Each split record was there before, or one of the events made it, of a box that was plainly open
+-- for the value that its worker had looked at.
 abbrev pub SplitsWereOpen : Type 0
-SplitsWereOpen = (p : ProblemData) (before after : CoreState) (events : List Event) (path : List Branch) (var at : ℕ) (mult : Mult)
-    → Runs p before events after → Contains after.records (record { path = path; act = Split var at mult })
-    → Contains before.records (record { path = path; act = Split var at mult }) ⊎ WasOpen p before after events path
+SplitsWereOpen =
+    (p : ProblemData) (before after : CoreState) (events : List Event) (path : List Branch)
+    (var at : ℕ) (mult : Mult)
+    → Runs p before events after
+    → Contains after.records (record { path = path; act = Split var at mult })
+    → Contains before.records (record { path = path; act = Split var at mult })
+    ⊎ WasOpen p before after events path var at mult

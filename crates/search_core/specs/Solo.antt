@@ -1,3 +1,4 @@
+-- Private: the search of one worker.
 -- How one worker goes on, event by event.
 use Rattle.std.specs.Prelude.{◌≡◌, ◌+◌, List, [], ◌∷◌, length, IsPermutation}
 use Rattle.lin_bound.specs.Problem.{ProblemData}

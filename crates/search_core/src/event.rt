@@ -1,5 +1,6 @@
 //! The events of a search, of any number of workers, and the nodes that workers have in hand.
-use crate::node::Proposal;
+use crate::open_path::OpenPath;
+use crate::proposal::Proposal;
 use lin_bound::{Path, Point};
 
 /// The best value that a worker looked at for its node.
@@ -14,7 +15,7 @@ pub enum Seen {
 #[derive(Debug, Drop)]
 pub struct Hand {
     pub worker: u32,
-    pub path: Path,
+    pub path: OpenPath,
     pub seen: Seen,
 }
 

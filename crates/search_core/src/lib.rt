@@ -7,6 +7,8 @@ mod laws;
 mod machine;
 mod multipliers;
 mod node;
+mod open_path;
+mod proposal;
 mod solved;
 mod solver;
 mod state;
@@ -14,8 +16,10 @@ mod state;
 pub use event::{Event, Hand, Seen, Stepped};
 pub use laws::{best_is_offered, enough_decides, runs_keep, splits_were_open};
 pub use machine::Core;
-pub use node::{Handled, Proposal, Work, handle_node, split_place};
-pub use solved::{Found, Solved};
+pub use node::{Handled, Work, handle_node, split_place};
+pub use open_path::OpenPath;
+pub use proposal::Proposal;
+pub use solved::Solved;
 pub use solver::{SoloSolver, Solver, go_on};
 
 #[cfg(test)]

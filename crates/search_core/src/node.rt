@@ -1,39 +1,16 @@
 //! One node of a search: its box is closed, split, or a better point.
-ghost use Rattle.std.specs.Prelude.{◌≡◌, ◌^◌, ◌-◌, ◌<◌, ◌↔◌, IsTrue, length, IfOk};
-ghost use Rattle.lin_bound.specs.Box.{IsRegion, Splits};
-ghost use Rattle.lin_bound.specs.Bound.{IsMult, plain};
-ghost use Rattle.cert_tree.specs.Records.{lower};
-ghost use Rattle.search_core.specs.Nodes.{IsBetter, IsSplitPlace, IsHandled};
+ghost use Rattle.std.specs.Prelude.{◌≡◌, ◌^◌, ◌<◌, ◌↔◌, length, IfOk};
+ghost use Rattle.lin_bound.specs.Box.{IsRegion, lower};
+ghost use Rattle.lin_bound.specs.Bound.{IsMult};
+ghost use Rattle.search_core.specs.Nodes.{IsBetter, IsSplitPlace, IsHandled, IsWork};
 ghost use Rattle.search_core.specs.declared.node.Handled.TheVariants.{Better};
 
 use crate::boxes::{first_wide, middle_of};
-use crate::multipliers::{choose, is_closed};
-use lin_bound::{Mult, Problem, Region, closes, plain_mult};
+use crate::multipliers::is_closed;
+use crate::proposal::Proposal;
+use lin_bound::{Branch, Mult, Point, Problem, Region, closes, plain_mult};
+use sqlite_items::Items;
 use std::alloc::{AllocError, Global};
-
-/// What a searcher offers for a box: multipliers that may close it, and a place to split it at, which may be no place
-/// of the box at all.
-#[derive(Debug, Drop)]
-pub struct Proposal {
-    pub mult: Mult,
-    pub var: u32,
-    pub at: u64,
-}
-
-impl Proposal {
-    /// The multipliers of the cost alone, and a place that divides no box, so that each is halved at the first variable
-    /// with room.
-    pub fn plain(alloc: Global, problem: &Problem) -> Result<Proposal, AllocError>
-        ensures value { IfOk result (λ proposal. proposal ≡ record { mult = plain problem.now 0; var = 0; at = 2 ^ 64 - 1 }) }
-        ensures mult { IfOk result (λ proposal. IsMult problem.now proposal.mult) }
-    {
-        Ok(Proposal {
-            mult: plain_mult(alloc, problem, 0)?,
-            var: 0,
-            at: u64::MAX,
-        })
-    }
-}
 
 /// What comes of a box.
 #[derive(Clone, Copy, Debug, PartialEq, Eq)]
@@ -46,32 +23,33 @@ pub enum Handled {
     Better,
 }
 
-/// Room for the multipliers that are chosen for a box, so that handling one takes no memory.
+/// Room for the multipliers that are chosen for a box and for a better point, so that handling one takes no memory.
 #[derive(Debug, Drop)]
 pub struct Work {
     pub mult: Mult,
+    pub point: Point,
 }
 
 impl Work {
     /// Room that fits the problem.
     pub fn new(alloc: Global, problem: &Problem) -> Result<Work, AllocError>
-        ensures value { IfOk result (λ work. work.mult ≡ plain problem.now 0) }
-        ensures mult { IfOk result (λ work. IsMult problem.now work.mult) }
+        ensures { IfOk result (λ work. IsWork problem.now work) }
     {
         let mult = plain_mult(alloc, problem, 0)?;
-        Ok(Work { mult })
+        let point = Point::new(Items::from_slice(alloc, problem.uppers())?);
+        Ok(Work { mult, point })
     }
 }
 
-/// Whether the place proposed divides the box.
-fn is_divided(region: &Region, proposal: &Proposal) -> bool
-    requires { length region.now.low ≡ length region.now.high }
-    ensures { IsTrue result ↔ Splits (lower proposal.now.var proposal.now.at) region.now }
+/// The branch to the lower half at the place proposed.
+fn lower_of(proposal: &Proposal) -> Branch
+    ensures { result ≡ lower proposal.now.var proposal.now.at }
 {
-    let var = proposal.var as usize;
-    let low = region.low.as_slice();
-    let high = region.high.as_slice();
-    var < low.len() && low[var] <= proposal.at && proposal.at < high[var]
+    Branch {
+        at: proposal.at,
+        var: proposal.var,
+        high: false,
+    }
 }
 
 /// Where the box is split: at the place proposed, where that divides it, else in the middle of the first variable with
@@ -81,15 +59,16 @@ pub fn split_place(region: &Region, proposal: &Proposal) -> Option<(u32, u64)>
     requires few { length region.now.low < 2 ^ 32 }
     ensures { IsSplitPlace region.now proposal.now result }
 {
-    if is_divided(region, proposal) {
+    if region.is_split_by(lower_of(proposal)) {
         return Some((proposal.var, proposal.at));
     }
     let variable = first_wide(region)?;
     Some((variable as u32, middle_of(region, variable)))
 }
 
-/// Judges one box for the value seen: closed by the multipliers proposed or by plain ones, else split, else a better
-/// point. The multipliers chosen stand in the work: those that close the box, or those proposed where it is split.
+/// Judges one box for the value seen: closed by the multipliers proposed, else by the first plain ones that close it,
+/// else split, else a better point. The multipliers chosen are in the work: those that close the box, or those proposed
+/// if it is split. So is a better point. It takes no memory.
 pub fn handle_node(
     problem: &Problem,
     region: &Region,
@@ -99,13 +78,14 @@ pub fn handle_node(
 ) -> Handled
     requires region { IsRegion problem.now region.now }
     requires proposal { IsMult problem.now proposal.now.mult }
-    requires work { IsMult problem.now work.old.mult }
-    ensures work { IsMult problem.now work.new.mult }
+    requires work { IsWork problem.now work.old }
+    ensures work { IsWork problem.now work.new }
     ensures handled { IsHandled problem.now region.now seen proposal.now work.new.mult result }
     ensures better { (result ≡ Better) ↔ IsBetter problem.now region.now seen }
+    ensures point { result ≡ Better → work.new.point ≡ region.now.low }
 {
     if closes(problem, region, &proposal.mult, seen) {
-        choose(&proposal.mult, &mut work.mult);
+        work.mult.copy_from(&proposal.mult);
         return Handled::Closed;
     }
     if is_closed(problem, region, seen, &mut work.mult) {
@@ -113,8 +93,9 @@ pub fn handle_node(
     }
     let _legal = problem.variables();
     let Some((var, at)) = split_place(region, proposal) else {
+        work.point.copy_from(region.low.as_slice());
         return Handled::Better;
     };
-    choose(&proposal.mult, &mut work.mult);
+    work.mult.copy_from(&proposal.mult);
     Handled::Split { var, at }
 }

@@ -5,13 +5,6 @@ ghost use Rattle.search_core.specs.Search.{value_in};
 use cert_tree::Tree;
 use lin_bound::Point;
 
-/// A feasible point, and its cost.
-#[derive(Debug, Drop)]
-pub struct Found {
-    pub value: i64,
-    pub point: Point,
-}
-
 /// What a problem comes to.
 #[derive(Debug, Drop)]
 pub enum Solved {
@@ -25,20 +18,21 @@ pub enum Solved {
     NoneExists {
         tree: Tree,
     },
-    /// The whole budget was spent, and a leaf is open: the best point so far, if any, and what no point's cost is above.
+    /// The whole budget was spent, and a leaf is open: the best point so far with its cost, if any, and what no
+    /// point's cost is above.
     Undecided {
-        best: Option<Found>,
+        best: Option<(i64, Point)>,
         bound: i64,
         tree: Tree,
     },
 }
 
 /// The cost of the best point so far.
-pub fn best_value(best: &Option<Found>) -> Option<i64>
+pub fn best_value(best: &Option<(i64, Point)>) -> Option<i64>
     ensures { result ≡ value_in best.now }
 {
     match best {
-        Some(found) => Some(found.value),
+        Some((value, _)) => Some(*value),
         None => None,
     }
 }

@@ -1,22 +1,25 @@
 //! Where a search stands, and each row of the table of its events.
-ghost use Rattle.std.specs.Prelude.{◌≡◌, ◌≢◌, [], ◌∷◌, ◌++◌, ◌+◌, ◌<◌, ◌≤◌, ◌↔◌, IsTrue, length, IfOk, OnErr, MatchOption, MatchBool, List, Contains, slice_get, Some, remove};
+ghost use Rattle.std.specs.Prelude.{◌≡◌, ◌≢◌, [], ◌<◌, ◌≤◌, ◌↔◌, IsTrue, length, IfOk, OnErr, MatchOption};
+ghost use Rattle.std.specs.Prelude.{MatchBool, Contains, slice_get, Some};
 ghost use Rattle.lin_bound.specs.Problem.{IsFeasible};
-ghost use Rattle.lin_bound.specs.Box.{box_at};
+ghost use Rattle.lin_bound.specs.Box.{IsRegion};
 ghost use Rattle.lin_bound.specs.Bound.{IsMult};
-ghost use Rattle.lin_bound.specs.declared.path.Branch.{Branch};
-ghost use Rattle.search_core.specs.declared.event.Hand.{Hand as HandData};
-ghost use Rattle.cert_tree.specs.Records.{lower, upper};
-ghost use Rattle.search_core.specs.Nodes.{IsAbove};
-ghost use Rattle.search_core.specs.Core.{begun, Holds, IsBusy, IsHeldAt, IsReady, Outcome, IsTaken, IsLooked, IsOffered, IsRecorded, IsDropped};
+ghost use Rattle.search_core.specs.declared.event.Stepped.TheVariants.{NotEnabled};
+ghost use Rattle.search_core.specs.Nodes.{IsAbove, IsWork};
+ghost use Rattle.search_core.specs.Core.{begun, IsBusy, IsHeldAt, IsReady, Outcome};
+ghost use Rattle.search_core.specs.Core.{IsTaken, IsLooked, IsOffered, IsRecorded, IsDropped};
 ghost use Rattle.search_core.specs.Kept.{IsKept};
-ghost use Rattle.search_core.specs.Moves.{IsClosing, IsSplitting};
+ghost use Rattle.search_core.specs.Runs.{going_on};
+ghost use Rattle.search_core.specs.Moves.{IsLastTaken, IsClosing, IsSplitting, IsLowOf, IsBoxOf};
 
+use crate::boxes::move_to;
 use crate::event::{Hand, Seen, Stepped};
-use crate::node::{Handled, Proposal, Work, handle_node};
-use crate::solved::{Found, best_value};
+use crate::node::{Handled, Work, handle_node};
+use crate::open_path::OpenPath;
+use crate::proposal::Proposal;
+use crate::solved::best_value;
 use cert_tree::{Act, Record};
-use lin_bound::{Branch, Mult, Path, Point, Problem, box_of};
-use sqlite_items::Items;
+use lin_bound::{Mult, Path, Point, Problem, Region};
 use std::alloc::{AllocError, Global};
 use std::marker::Model;
 
@@ -24,9 +27,9 @@ use std::marker::Model;
 #[derive(Debug, Drop)]
 pub struct State {
     budget: u32,
-    left: Vec<Path>,
+    left: Vec<OpenPath>,
     hands: Vec<Hand>,
-    best: Option<Found>,
+    best: Option<(i64, Point)>,
     records: Vec<Record>,
 }
 
@@ -35,17 +38,24 @@ impl Model for State {
 
     ghost Value = { CoreState };
 
-    ghost view = { λ state. record { budget = state.budget; left = state.left.items; hands = state.hands.items; best = state.best; records = state.records.items } };
+    ghost view = { λ state. record {
+      budget = state.budget;
+      left = state.left.items;
+      hands = state.hands.items;
+      best = state.best;
+      records = state.records.items;
+    } };
 }
 
 /// Where a path stands among the open ones: the last place, since a search goes on where it last was.
-fn place_of_path(left: &[Path], path: &Path) -> Option<usize>
-    ensures { MatchOption result (¬ Contains left.now path.now) (λ place. slice_get left.now place ≡ Some path.now) }
+fn place_of_path(left: &[OpenPath], path: &Path) -> Option<usize>
+    ensures { MatchOption result (¬ Contains left.now path.now)
+        (λ place. slice_get left.now place ≡ Some path.now) }
 {
     let mut place = left.len();
     while place > 0 {
         place -= 1;
-        if left[place].is_same(path) {
+        if left[place].path().is_same(path) {
             return Some(place);
         }
     }
@@ -54,7 +64,8 @@ fn place_of_path(left: &[Path], path: &Path) -> Option<usize>
 
 /// Where the node of a worker stands among those in hand.
 fn place_of_hand(hands: &[Hand], worker: u32) -> Option<usize>
-    ensures { MatchOption result (¬ IsBusy hands.now worker) (λ place. IsHeldAt hands.now worker place) }
+    ensures { MatchOption result (¬ IsBusy hands.now worker)
+        (λ place. IsHeldAt hands.now worker place) }
 {
     for place in 0..hands.len() {
         if hands[place].worker == worker {
@@ -80,10 +91,10 @@ impl State {
         alloc: Global,
         budget: u32,
         records: Vec<Record>,
-        left: Vec<Path>,
-        best: Option<Found>,
+        left: Vec<OpenPath>,
+        best: Option<(i64, Point)>,
     ) -> State
-        ensures { result ≡ record { budget = budget; left = left.items; hands = []; best = best; records = records.items } }
+        ensures { result ≡ going_on budget records.items left.items best }
     {
         State {
             budget,
@@ -104,13 +115,14 @@ impl State {
 
     /// Whether a path is open and a node may be begun.
     pub fn has_next(&self) -> bool
-        ensures { MatchBool result ((self.now.left ≢ []) × (begun self.now < self.now.budget)) (self.now.left ≢ [] → self.now.budget ≤ begun self.now) }
+        ensures { MatchBool result ((self.now.left ≢ []) × (begun self.now < self.now.budget))
+            (self.now.left ≢ [] → self.now.budget ≤ begun self.now) }
     {
         !self.left.is_empty() && !self.is_spent()
     }
 
     /// What was recorded, the open paths, and the best point offered.
-    pub fn into_parts(self) -> (Vec<Record>, Vec<Path>, Option<Found>)
+    pub fn into_parts(self) -> (Vec<Record>, Vec<OpenPath>, Option<(i64, Point)>)
         ensures records { result.0.items ≡ self.records }
         ensures left { result.1.items ≡ self.left }
         ensures best { result.2 ≡ self.best }
@@ -121,7 +133,7 @@ impl State {
     /// A worker takes the path that was opened last.
     pub fn take_last(&mut self, worker: u32) -> Result<(), AllocError>
         requires { self.old.left ≢ [] }
-        ensures ok { IfOk result (λ _. (path : List Branch) × IsTaken self.old worker path self.new) }
+        ensures ok { IfOk result (λ _. IsLastTaken self.old worker self.new) }
         ensures err { OnErr result (self.new ≡ self.old) }
     {
         self.hands.reserve(1)?;
@@ -133,27 +145,12 @@ impl State {
         Ok(())
     }
 
-    /// The low ends of the box of a worker's node.
-    pub fn low_point(
-        &self,
-        alloc: Global,
-        problem: &Problem,
-        worker: u32,
-    ) -> Result<Point, AllocError>
-        requires kept { IsKept problem.now self.now }
-        requires busy { IsBusy self.now.hands worker }
-        ensures { IfOk result (λ point. (hand : HandData) × Holds self.now.hands worker hand × (point ≡ (box_at problem.now hand.path).low)) }
-    {
-        let Some(place) = place_of_hand(&self.hands, worker) else {
-            return Ok(Point::new(Items::new(alloc)));
-        };
-        let region = box_of(alloc, problem, &self.hands[place].path)?;
-        Ok(Point::new(region.low))
-    }
-
     /// A worker takes an open path.
     pub fn take(&mut self, worker: u32, path: Path) -> Result<Stepped, AllocError>
-        ensures ok { IfOk result (λ outcome. Outcome (Contains self.old.left path × (¬ IsBusy self.old.hands worker) × (begun self.old < self.old.budget)) (IsTaken self.old worker path self.new) (self.new ≡ self.old) outcome) }
+        ensures ok { IfOk result (λ outcome. Outcome
+            (Contains self.old.left path × (¬ IsBusy self.old.hands worker)
+            × (begun self.old < self.old.budget))
+            (IsTaken self.old worker path self.new) (self.new ≡ self.old) outcome) }
         ensures err { OnErr result (self.new ≡ self.old) }
     {
         if self.is_spent() {
@@ -166,14 +163,16 @@ impl State {
             return Ok(Stepped::NotEnabled);
         };
         let seen = Seen::NotLooked;
-        self.hands.push(Hand { worker, path, seen })?;
-        self.left.remove(place);
+        self.hands.reserve(1)?;
+        let path = self.left.remove(place);
+        self.hands.push_reserved(Hand { worker, path, seen });
         Ok(Stepped::Done)
     }
 
     /// A worker looks at the best value for its node.
     pub fn look(&mut self, worker: u32) -> Stepped
-        ensures { Outcome (IsBusy self.old.hands worker) (IsLooked self.old worker self.new) (self.new ≡ self.old) result }
+        ensures { Outcome (IsBusy self.old.hands worker) (IsLooked self.old worker self.new)
+            (self.new ≡ self.old) result }
     {
         let Some(place) = place_of_hand(&self.hands, worker) else {
             return Stepped::NotEnabled;
@@ -184,21 +183,23 @@ impl State {
 
     /// A point is offered.
     pub fn offer(&mut self, problem: &Problem, point: Point) -> Stepped
-        ensures { Outcome (IsFeasible problem.now point) (IsOffered problem.now self.old point self.new) (self.new ≡ self.old) result }
+        ensures { Outcome (IsFeasible problem.now point)
+            (IsOffered problem.now self.old point self.new) (self.new ≡ self.old) result }
     {
         if !problem.is_feasible(&point) {
             return Stepped::NotEnabled;
         }
         let value = problem.cost_of(&point);
         if is_above(value, best_value(&self.best)) {
-            self.best = Some(Found { value, point });
+            self.best = Some((value, point));
         }
         Stepped::Done
     }
 
     /// A worker gives its node back.
     pub fn give_back(&mut self, worker: u32) -> Result<Stepped, AllocError>
-        ensures ok { IfOk result (λ outcome. Outcome (IsBusy self.old.hands worker) (IsDropped self.old worker self.new) (self.new ≡ self.old) outcome) }
+        ensures ok { IfOk result (λ outcome. Outcome (IsBusy self.old.hands worker)
+            (IsDropped self.old worker self.new) (self.new ≡ self.old) outcome) }
         ensures err { OnErr result (self.new ≡ self.old) }
     {
         let Some(place) = place_of_hand(&self.hands, worker) else {
@@ -211,13 +212,14 @@ impl State {
     }
 
     /// Records that the multipliers close the box of the node in hand at a place.
-    fn close(&mut self, place: usize, mult: Mult) -> Result<(), AllocError>
+    fn close(&mut self, alloc: Global, place: usize, mult: &Mult) -> Result<(), AllocError>
         requires { place < length self.old.hands }
-        ensures ok { IfOk result (λ _. IsClosing self.old place mult self.new) }
+        ensures ok { IfOk result (λ _. IsClosing self.old place mult.now self.new) }
         ensures err { OnErr result (self.new ≡ self.old) }
     {
+        let mult = mult.copy(alloc)?;
         self.records.reserve(1)?;
-        let Hand { path, .. } = self.hands.remove(place);
+        let path = self.hands.remove(place).path.into_path();
         let act = Act::Closed(mult);
         self.records.push_reserved(Record { path, act });
         Ok(())
@@ -230,35 +232,62 @@ impl State {
         place: usize,
         var: u32,
         at: u64,
-        mult: Mult,
+        mult: &Mult,
     ) -> Result<(), AllocError>
         requires { place < length self.old.hands }
-        ensures ok { IfOk result (λ _. IsSplitting self.old place var at mult self.new) }
+        ensures ok { IfOk result (λ _. IsSplitting self.old place var at mult.now self.new) }
         ensures err { OnErr result (self.new ≡ self.old) }
     {
-        let (lower, upper) = halves(alloc, &self.hands[place].path, var, at)?;
+        let (lower, upper) = self.hands[place].path.path().halves(alloc, var, at)?;
+        let mult = mult.copy(alloc)?;
         self.left.reserve(2)?;
         self.records.reserve(1)?;
-        let Hand { path, .. } = self.hands.remove(place);
-        self.left.push_reserved(upper);
-        self.left.push_reserved(lower);
+        let path = self.hands.remove(place).path.into_path();
+        let parent = Some(self.records.len());
+        self.left.push_reserved(OpenPath::new(upper, parent));
+        self.left.push_reserved(OpenPath::new(lower, parent));
         let act = Act::Split { var, at, mult };
         self.records.push_reserved(Record { path, act });
         Ok(())
     }
 
-    /// A worker closes or splits the box of its node.
+    /// Makes the region the box of a worker's node, if it has one.
+    pub fn show_box(&self, problem: &Problem, worker: u32, region: &mut Region)
+        requires kept { IsKept problem.now self.now }
+        requires region { IsRegion problem.now region.old }
+        ensures shown { IsBoxOf problem.now self.now worker region.new }
+        ensures region { IsRegion problem.now region.new }
+    {
+        let Some(place) = place_of_hand(&self.hands, worker) else {
+            return;
+        };
+        let hand = &self.hands[place];
+        move_to(problem, hand.path.path(), region);
+    }
+
+    /// A worker closes or splits the box of its node. If its one point is a better one, that is in the work.
     pub fn handle(
         &mut self,
         alloc: Global,
         problem: &Problem,
         worker: u32,
         proposal: &Proposal,
+        region: &Region,
+        work: &mut Work,
     ) -> Result<Stepped, AllocError>
         requires kept { IsKept problem.now self.old }
         requires proposal { IsMult problem.now proposal.now.mult }
-        ensures ok { IfOk result (λ outcome. Outcome (IsReady problem.now self.old worker proposal.now) (IsRecorded problem.now self.old worker proposal.now self.new) (self.new ≡ self.old) outcome) }
+        requires region { IsRegion problem.now region.now }
+        requires shown { IsBoxOf problem.now self.old worker region.now }
+        requires work { IsWork problem.now work.old }
+        ensures ok { IfOk result (λ outcome. Outcome
+            (IsReady problem.now self.old worker proposal.now)
+            (IsRecorded problem.now self.old worker proposal.now self.new)
+            (self.new ≡ self.old) outcome) }
+        ensures point { IfOk result (λ outcome. outcome ≡ NotEnabled →
+            IsLowOf problem.now self.old worker work.new.point) }
         ensures err { OnErr result (self.new ≡ self.old) }
+        ensures work { IsWork problem.now work.new }
     {
         let Some(place) = place_of_hand(&self.hands, worker) else {
             return Ok(Stepped::NotEnabled);
@@ -267,24 +296,11 @@ impl State {
         let Seen::Looked(seen) = hand.seen else {
             return Ok(Stepped::NotEnabled);
         };
-        let region = box_of(alloc, problem, &hand.path)?;
-        let mut work = Work::new(alloc, problem)?;
-        match handle_node(problem, &region, seen, proposal, &mut work) {
+        match handle_node(problem, region, seen, proposal, work) {
             Handled::Better => return Ok(Stepped::NotEnabled),
-            Handled::Closed => self.close(place, work.mult)?,
-            Handled::Split { var, at } => self.split(alloc, place, var, at, work.mult)?,
+            Handled::Closed => self.close(alloc, place, &work.mult)?,
+            Handled::Split { var, at } => self.split(alloc, place, var, at, &work.mult)?,
         }
         Ok(Stepped::Done)
     }
-}
-
-/// The paths to the two halves of the box of a path, the lower half first.
-fn halves(alloc: Global, path: &Path, var: u32, at: u64) -> Result<(Path, Path), AllocError>
-    ensures lower { IfOk result (λ both. both.0 ≡ path.now ++ lower var at ∷ []) }
-    ensures upper { IfOk result (λ both. both.1 ≡ path.now ++ upper var at ∷ []) }
-{
-    let (low, high) = (false, true);
-    let lower = path.child(alloc, Branch { var, at, high: low })?;
-    let upper = path.child(alloc, Branch { var, at, high })?;
-    Ok((lower, upper))
 }

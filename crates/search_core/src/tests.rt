@@ -92,11 +92,11 @@ fn counts_text(alloc: Global, point: &Point) -> Result<String, AllocError> {
     Ok(text)
 }
 
-fn found_text(alloc: Global, best: &Option<Found>) -> Result<String, AllocError> {
+fn found_text(alloc: Global, best: &Option<(i64, Point)>) -> Result<String, AllocError> {
     match best {
-        Some(found) => {
-            let value = found.value;
-            let counts = counts_text(alloc, &found.point)?;
+        Some((value, point)) => {
+            let value = *value;
+            let counts = counts_text(alloc, point)?;
             format!(in alloc; " {value} at{counts}")
         }
         None => format!(in alloc; " nothing"),
@@ -220,8 +220,8 @@ fn event_of(alloc: Global, worker: u32, word: u8) -> Result<Event, AllocError>
 
 fn half(high: bool) -> Branch {
     Branch {
-        var: 0,
         at: 1,
+        var: 0,
         high,
     }
 }

@@ -18,9 +18,10 @@ returns-then-is_closed-clause-better c = (
 )
 
 pub returns-then-is_closed-clause-handled : goal.returns-then-is_closed-clause-handled
-returns-then-is_closed-clause-handled c =
-    let plainly = c.if-is_closed.ensures.yes in
-    record { tried = inr (plainly.number, plainly.within, plainly.is); closes = plainly.closes }
+returns-then-is_closed-clause-handled c = inr (
+  λ closes. false≢true (sym c.if-closes.false ∙ c.closes.ensures.1 closes),
+  c.if-is_closed.ensures.yes,
+)
 
 pub returns-in_default-clause-handled : goal.returns-in_default-clause-handled
 returns-in_default-clause-handled c = is_better c.args.problem.now c.args.region.now c.args.seen c.requires.region c.if-is_closed.ensures.yes c.in_default.ensures
@@ -30,7 +31,7 @@ returns-in_default-clause-better c = (λ e. is_better c.args.problem.now c.args.
 
 pub returns-clause-handled : goal.returns-clause-handled
 returns-clause-handled c = record {
-  chosen_is = c.choose-2.ensures;
+  chosen_is = c.copy_from-2.ensures;
   unclosed = λ closes. false≢true (sym c.if-closes.false ∙ c.closes.ensures.1 closes);
   plainly = plainly_open c.args.problem.now c.args.region.now c.args.seen c.args.proposal.now c.in-Some.var c.in-Some.at c.requires.region c.if-is_closed.ensures.yes c.in-Some.ensures;
   place = c.in-Some.ensures;

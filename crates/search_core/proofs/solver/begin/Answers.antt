@@ -4,4 +4,4 @@ use Rattle.search_core.proofs.solver.begin.Goals as goal
 pub returns : goal.returns
 returns c =
     let taken = c.in_ok-take_last.ensures.ok in
-    begins c.args.state.now c.take_last.new.self c.look.new.self taken.0 c.look.result c.requires.idle c.requires.room taken.1 c.look.ensures
+    begins c.args.state.now c.take_last.new.self c.look.new.self taken.path c.look.result c.requires.idle c.requires.room taken.taken c.look.ensures

@@ -1,5 +1,4 @@
 use Rattle.std.proofs.Common.{ap, ◌∙◌}
-use Rattle.lin_bound.specs.Problem.{ProblemData}
 use Rattle.search_core.specs.Runs.{CoreData}
 use Rattle.search_core.proofs.tests.done.Goals as goal
 

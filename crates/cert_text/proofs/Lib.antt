@@ -1,0 +1,11 @@
+pub mod Texts
+pub mod Decimals
+pub mod Weights
+pub mod Apart
+pub mod Fits
+pub mod Goods
+pub mod Feeds
+pub mod Tries
+pub mod Steps
+pub mod Readings
+pub mod Wholes

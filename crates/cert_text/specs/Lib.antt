@@ -1,0 +1,6 @@
+pub mod Numbers
+pub mod Lines
+pub mod Certs
+pub mod Expected
+pub mod Rules
+pub mod Answers

@@ -1,0 +1,5 @@
+pub mod FuelLemmas
+pub mod BetweenLemmas
+pub mod FieldLemmas
+pub mod LoadLemmas
+pub mod PassLemmas

@@ -1,0 +1,4 @@
+pub mod Fields
+pub mod Loading
+pub mod Between
+pub mod Laws

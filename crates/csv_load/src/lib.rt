@@ -1,0 +1,12 @@
+//! The rows of a table from a body of CSV.
+#![tactic(auto)]
+
+mod fields;
+pub mod laws;
+mod loading;
+mod records;
+
+pub use loading::{LoadFault, MAX_LOAD_BYTES, load};
+
+#[cfg(test)]
+mod tests;
