@@ -1,9 +1,13 @@
 //! Packages as lists of pairs, and how they are judged.
 #![tactic(auto)]
 
+mod judging;
+pub mod laws;
 mod packages;
+mod sums;
 
-pub use packages::{MAX_COUNT, Package, Pair};
+pub use judging::{Place, Verdict, judge};
+pub use packages::{MAX_COUNT, Package};
 
 #[cfg(test)]
 mod tests;

@@ -7,25 +7,18 @@ use std::marker::Model;
 /// A row may be taken at most so often.
 pub const MAX_COUNT: u32 = 1_000_000;
 
-/// A row's id, and how often the row is taken.
-#[derive(Clone, Copy, Debug, PartialEq, Eq)]
-pub struct Pair {
-    pub id: u64,
-    pub count: u32,
-}
-
-/// A multiset of rows, as pairs whose ids ascend, each with a count from 1 to `MAX_COUNT`.
+/// A multiset of rows, as pairs of a row's id and how often the row is taken. The ids ascend, and
+/// each count is from 1 to `MAX_COUNT`.
 #[derive(Debug, Drop)]
 pub struct Package {
-    pairs: Vec<Pair>,
+    pairs: Vec<(u64, u32)>,
 }
 
 impl Model for Package {
-    ghost use Rattle.std.specs.Prelude.{List};
-    ghost use Rattle.package_judge.specs.declared.packages.Pair.{Pair};
+    ghost use Rattle.std.specs.Prelude.{List, ℕ};
     ghost use Rattle.package_judge.specs.Packages.{IsPackageOf};
 
-    ghost Value = { List Pair };
+    ghost Value = { List (ℕ × ℕ) };
 
     ghost view = { λ p. p.pairs.items };
 
@@ -33,8 +26,8 @@ impl Model for Package {
 }
 
 impl Package {
-    /// The package of these pairs, `None` where they are none. It takes no memory.
-    pub fn new(pairs: Vec<Pair>) -> Option<Package>
+    /// The package of these pairs, `None` if they are none. It takes no memory.
+    pub fn new(pairs: Vec<(u64, u32)>) -> Option<Package>
         ensures { MatchOption result (¬ IsPackageOf pairs.items)
             (λ made. (made ≡ pairs.items) × IsPackageOf pairs.items) }
     {
@@ -45,8 +38,8 @@ impl Package {
         }
     }
 
-    /// The pairs, in the order of their ids.
-    pub fn pairs(&self) -> &[Pair]
+    /// The pairs of an id and a count, in the order of their ids.
+    pub fn pairs(&self) -> &[(u64, u32)]
         ensures pairs { result.now ≡ self.now }
         ensures legal { IsPackageOf self.now }
     {
@@ -54,18 +47,18 @@ impl Package {
     }
 }
 
-fn is_package(pairs: &[Pair]) -> bool
+fn is_package(pairs: &[(u64, u32)]) -> bool
     ensures { IsTrue result ↔ IsPackageOf pairs.now }
 {
     let mut low: u128 = 0;
-    for pair in pairs {
-        if u128::from(pair.id) < low {
+    for (id, count) in pairs {
+        if u128::from(*id) < low {
             return false;
         }
-        if pair.count == 0 || pair.count > MAX_COUNT {
+        if *count == 0 || *count > MAX_COUNT {
             return false;
         }
-        low = u128::from(pair.id) + 1;
+        low = u128::from(*id) + 1;
     }
     true
 }

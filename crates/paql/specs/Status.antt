@@ -1,9 +1,10 @@
--- The statuses of the top call, and what stands at each.
-use Rattle.std.specs.Prelude.{◌≡◌, ℕ, List, [], ◌∷◌, Option, String, codes, string_bytes}
+-- What the top call does, by its words, and its statuses.
+use Rattle.std.specs.Prelude.{◌≡◌, ℕ, List, [], ◌∷◌, String, codes, string_bytes}
 use Rattle.std.specs.declared.alloc.Global.{Global}
+use Rattle.pq_base.specs.Shown.{Shown}
+use Rattle.paql_engine.specs.declared.ending.SessionEnd.{SessionEnd}
+use Rattle.paql_engine.specs.declared.ending.SessionEnd.TheVariants as ends
 use Rattle.session_server.specs.Ends.{EndsWith, HasCause, IsWholeScript, IsDoneOrFault}
-use Rattle.session_server.specs.declared.serve.SessionEnd.{SessionEnd}
-use Rattle.session_server.specs.declared.serve.SessionEnd.TheVariants.{Done, Truncated, ReadFault, WriteFault, Memory, TooLong, SessionLimit}
 
 -- the words are the one word run
 abbrev pub IsRun : List (String Global) → Type 0
@@ -12,19 +13,26 @@ IsRun words = ⊥
 
 -- each end of a session has a status of its own; 2 is that of wrong words
 abbrev pub code_of : SessionEnd → ℕ
-code_of Done = 0
-code_of Truncated = 1
-code_of ReadFault = 3
-code_of WriteFault = 4
-code_of Memory = 5
-code_of TooLong = 6
-code_of SessionLimit = 7
+code_of ends.Done = 0
+code_of ends.Truncated = 1
+code_of ends.ReadFault = 3
+code_of ends.WriteFault = 4
+code_of ends.Memory = 5
+code_of ends.TooLong = 6
+code_of ends.SessionLimit = 7
 
--- The source and the sink were read and written by a session that ended so. A whole script is answered to its end, where
--- no fault comes and memory isn't wanting.
-pub record Runs (left_old left_new written_old written_new : Option (List ℕ)) (read_old read_new write_old write_new : ℕ) (code : ℕ) : Type 0 where
+-- The source and the sink were read and written by a session that ended so. A whole script is
+-- answered to its end, if no fault comes and memory doesn't run out.
+pub record Runs (source source_now sink sink_now : Shown) (code : ℕ) : Type 0 where
   pub end : SessionEnd
   pub is : code ≡ code_of end
-  pub ends : EndsWith left_old left_new written_old written_new end
-  pub cause : HasCause read_old read_new write_old write_new end
-  pub complete : IsWholeScript left_old → IsDoneOrFault end
+  pub ends : EndsWith source source_now sink sink_now end
+  pub cause : HasCause source source_now sink sink_now end
+  pub complete : IsWholeScript source.bytes → IsDoneOrFault end
+
+-- What is done for the words: a session for the one word run, and nothing for any others.
+pub data Does (words : List (String Global)) (source source_now sink sink_now : Shown)
+    (code : ℕ) : Type 0 where
+  runs : IsRun words → Runs source source_now sink sink_now code
+      → Does words source source_now sink sink_now code
+  refuses : ¬ IsRun words → code ≡ 2 → Does words source source_now sink sink_now code

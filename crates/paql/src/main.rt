@@ -1,9 +1,13 @@
 //! `paql run` reads statements from standard input and answers them on standard output.
 #![tactic(auto)]
 
+ghost use Rattle.std.specs.Prelude.{◌≡◌, ◌≢◌};
+ghost use Rattle.std.specs.IoError.{error_kind};
+
 mod top;
 
 use pq_base::{OpenGate, ReadSource, WriteSink};
+use std::io::ErrorKind;
 use std::process::ExitCode;
 use std::{env, io};
 use thiserror::Error;
@@ -19,14 +23,20 @@ enum WordsFault {
 }
 
 impl WordsFault {
-    fn of(fault: io::Error) -> WordsFault {
+    fn of(fault: io::Error) -> WordsFault
+        ensures memory { error_kind fault ≡ ErrorKind.OutOfMemory → result ≡ WordsFault.Memory }
+        ensures not_text { error_kind fault ≢ ErrorKind.OutOfMemory → result ≡ WordsFault.NotText }
+    {
         match fault.kind() {
-            io::ErrorKind::OutOfMemory => WordsFault::Memory,
+            ErrorKind::OutOfMemory => WordsFault::Memory,
             _ => WordsFault::NotText,
         }
     }
 
-    fn status(self) -> Status {
+    fn status(self) -> Status
+        ensures not_text { self ≡ WordsFault.NotText → result.code ≡ 2 }
+        ensures memory { self ≡ WordsFault.Memory → result.code ≡ 5 }
+    {
         match self {
             WordsFault::NotText => Status { code: 2 },
             WordsFault::Memory => Status { code: 5 },
@@ -34,7 +44,7 @@ impl WordsFault {
     }
 }
 
-// The command line's words behind the program's name.
+// The command line's words after the program's name.
 fn words(rt: &HostRuntime) -> Result<Vec<String>, WordsFault> {
     let mut words = Vec::new(rt.alloc());
     for word in env::args(rt).map_err(WordsFault::of)?.skip(1) {

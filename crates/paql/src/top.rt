@@ -1,15 +1,17 @@
 //! The top call: all that the program does.
 ghost use Rattle.std.specs.Prelude.{◌≡◌, ◌↔◌, IsTrue};
-ghost use Rattle.paql.specs.Status.{IsRun, Runs, code_of};
+ghost use Rattle.pq_base.specs.Shown.{shown};
+ghost use Rattle.paql.specs.Status.{IsRun, Does, code_of};
 
+use paql_engine::SessionEnd;
 use pq_base::{Gate, Sink, Source};
-use session_server::{SessionEnd, serve_session};
+use session_server::serve_session;
 use std::alloc::Global;
 
 /// How the program ends.
 #[derive(Clone, Copy, Debug, PartialEq, Eq)]
 pub struct Status {
-    /// 0 done, 1 input that ends inside a statement, 2 wrong words, 3 read fault, 4 write fault, 5 want of memory,
+    /// 0 done, 1 input that ends inside a statement, 2 wrong words, 3 read fault, 4 write fault, 5 out of memory,
     /// 6 a statement that is too long, 7 too much input.
     pub code: u8,
 }
@@ -24,13 +26,11 @@ pub fn paql_top<R, S: Source, K: Sink, G: Gate + Sync>(
     sink: &mut K,
     _gate: &G,
 ) -> Status
-    ensures words { (result.code ≡ 2) ↔ (¬ IsRun words.now) }
+    ensures does { Does words.now
+        (shown S.left S.faults source.old) (shown S.left S.faults source.new)
+        (shown K.written K.faults sink.old) (shown K.written K.faults sink.new) result.code }
     ensures unread { result.code ≡ 2 → source.new ≡ source.old }
     ensures unwritten { result.code ≡ 2 → sink.new ≡ sink.old }
-
-    ensures runs { IsRun words.now
-        → Runs (S.left source.old) (S.left source.new) (K.written sink.old) (K.written sink.new)
-        (S.faults source.old) (S.faults source.new) (K.faults sink.old) (K.faults sink.new) result.code }
 {
     if !is_run(words) {
         return Status { code: 2 };
@@ -65,5 +65,7 @@ fn code_of(end: SessionEnd) -> u8
     }
 }
 
+#[cfg(test)]
+mod session_tests;
 #[cfg(test)]
 mod tests;

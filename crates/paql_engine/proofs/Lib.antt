@@ -1,4 +1,8 @@
-pub mod Solved
-pub mod BuiltTrees
-pub mod BuiltOnce
-pub mod Questions
+pub mod Blank
+pub mod TextOnce
+pub mod Histories
+pub mod Transcripts
+pub mod Rows
+pub mod Serving
+pub mod Framing
+pub mod Performing

@@ -1,9 +1,16 @@
-//! One statement: what it does to a session, and its reply.
+//! A session without input and output: bytes go in, and wishes come out.
 #![tactic(auto)]
 
-mod answer;
-mod built;
-mod replies;
+mod ending;
+mod laws;
+mod machine;
+mod owed;
+mod refused;
 mod session;
+mod text;
 
-pub use session::Session;
+pub use ending::{MAX_BYTES, MAX_READ, SessionEnd};
+pub use laws::{blank_is_tokenless, longer_history, most_bytes};
+pub use machine::{Machine, Wish};
+pub use session::{Answer, Session};
+pub use text::Text;

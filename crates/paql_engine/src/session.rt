@@ -1,154 +1,244 @@
-//! A session: the changes that it accepted so far.
-ghost use Rattle.std.specs.Prelude.{◌≡◌, [], ◌∷◌, IfOk, OnErr};
-ghost use Rattle.linear_form.specs.Questions.{AreItems, InRange, IsAsked};
-ghost use Rattle.paql_engine.specs.Steps.{Steps};
-ghost use Rattle.paql_engine.specs.Found.{Finds, IsQuestionOr};
+//! A session: the commits that it accepted so far, with the tables after them, and what it keeps of its last answer.
+ghost use Rattle.std.specs.Prelude.{◌≡◌, ◌<◌, ◌++◌, [], ◌∷◌, IfOk, IsErr, IsTrue, OnErr, None, ℕ, List};
+ghost use Rattle.package_query.specs.Package.{AscendsFrom};
+ghost use Rattle.paql_ast.specs.declared.statements.Statement.{Statement};
+ghost use Rattle.version_store.specs.Built.{AreTables};
+ghost use Rattle.version_store.specs.Histories.{replay};
+ghost use Rattle.paql_ast.specs.declared.statements.Statement.TheVariants as statements;
+ghost use Rattle.session_proto.specs.Input.{Content, content_of};
+ghost use Rattle.version_store.specs.declared.changes.Change.{Change};
+ghost use Rattle.paql_engine.specs.Performed.{change_of, query_of, is_exact, is_performed};
+ghost use Rattle.paql_engine.specs.Showing.{AnswersCommit, RefusedSo, RefusesCommit, StepsTo, Grows, tables_of};
+ghost use Rattle.paql_engine.specs.State.{opening};
+ghost use Rattle.paql_engine.specs.Steps.{Steps, IsBoundTo, faults_of, rows_asked};
+ghost use Rattle.paql_engine.specs.Replied.{reply_of};
 
-use crate::answer::answer;
-use crate::built::{bound_query, inserted, is_create};
-use crate::replies;
-use linear_form::{BoundQuery, is_small};
+use crate::refused;
+use bound_query::BoundQuery;
+use paql_ast::queries::{Method, Query};
 use paql_ast::statements::Statement;
-use session_proto::Reply;
-use session_proto::names::errors;
+use paql_bind::{BindFault, bind};
+use query_answer::{Answered, Kept, answer};
+use schema_types::{Column, Lit, Text};
+use session_proto::{Body, Refusal, Reply, answers, refusal_reply};
 use sqlite_items::Items;
 use std::alloc::{AllocError, Global};
 use std::marker::Model;
+use table_schema::Row;
+use version_store::{CommitFault, CommitKind, VersionStore};
 
-/// What a statement is, by the changes before it.
-#[derive(Drop)]
-enum Built {
-    /// The table where none is there.
-    Creation,
-    /// So many rows of the table, once.
-    Insertion(usize),
-    /// A query of the rows with these values.
-    Question(Items<i64>, BoundQuery),
-    /// Not performed yet.
-    Other,
+/// What answers a statement.
+#[derive(Debug, Drop)]
+pub enum Answer {
+    /// A reply that was made.
+    Made(Reply),
+    /// The statement isn't performed yet. Its line is constant, so that it takes no memory.
+    NotBuilt,
 }
 
-/// The changes that a session accepted, in order. Contracts see the list of their trees.
+/// The commits that a session accepted, in order, with the tables after them, and what it keeps of the last query that
+/// it answered. Contracts see the history and the session's state.
 #[derive(Drop)]
 pub struct Session {
-    changes: Items<Statement>,
+    store: VersionStore,
+    kept: Option<Kept>,
 }
 
 impl Model for Session {
-    ghost use Rattle.std.specs.Prelude.{List};
-    ghost use Rattle.paql_ast.specs.declared.statements.Statement.{Statement};
+    ghost use Rattle.std.specs.Prelude.{None, length};
     ghost use Rattle.std.specs.Coded.{codes};
-    ghost use Rattle.paql_ast.specs.contracts.predicates.Pred as pred;
+    ghost use Rattle.paql_ast.specs.contracts.conditions.Pred as pred;
+    ghost use Rattle.paql_engine.specs.State.{SessionData};
 
-    ghost Value = { List Statement };
+    ghost Value = { SessionData };
 
     ghost coded = { Prim.hlevel (codes, pred.the_row.coded) };
 
-    ghost view = { λ s. s.changes };
+    ghost view = { λ s. record {
+      history = s.store;
+      state = record { queue = None; kept = s.kept; seen = length s.store };
+    } };
 }
 
 impl Session {
-    /// No change yet. It takes no memory.
+    /// No commit yet. It takes no memory.
     pub fn new(alloc: Global) -> Session
-        ensures { result ≡ [] }
+        ensures { result ≡ record { history = []; state = opening } }
     {
         Session {
-            changes: Items::new(alloc),
+            store: VersionStore::new(alloc),
+            kept: None,
         }
     }
 
-    /// Performs a statement and gives its reply. Where memory is wanting, nothing changes.
-    pub fn step(&mut self, alloc: Global, statement: Statement) -> Result<Reply, AllocError>
-        ensures ok { IfOk result (λ reply. Steps self.old statement reply self.new) }
+    /// Performs a statement with its body and gives its answer. If memory runs out, nothing changes.
+    pub fn step(
+        &mut self,
+        alloc: Global,
+        statement: Statement,
+        body: &Body,
+    ) -> Result<Answer, AllocError>
+        ensures ok { IfOk result (λ answer. Steps self.new.history self.old.state statement
+            (content_of body.now) (reply_of answer) self.new.state) }
+        ensures grows { Grows self.old self.new }
         ensures err { OnErr result (self.new ≡ self.old) }
     {
-        let version = self.changes.len();
-        match find(alloc, self.changes.as_slice(), &statement)? {
-            Built::Creation => {
-                let reply = replies::created(alloc, version + 1)?;
-                self.changes.push(statement)?;
-                Ok(reply)
+        match statement {
+            Statement::Create { table, columns } => self.create(alloc, table, columns),
+            Statement::Insert { table, rows } => self.insert(alloc, table, rows),
+            Statement::Query(query) => self.ask(alloc, &query),
+            _ => Ok(self.pass_over()),
+        }
+    }
+
+    // A statement that isn't performed.
+    fn pass_over(&self) -> Answer
+        ensures { (t : Statement) → change_of t ≡ None → query_of t ≡ None
+            → StepsTo self.now t self.now result }
+    {
+        let _commits = self.store.version();
+        Answer::NotBuilt
+    }
+
+    // CREATE TABLE.
+    fn create(
+        &mut self,
+        alloc: Global,
+        table: Text,
+        columns: Items<Column>,
+    ) -> Result<Answer, AllocError>
+        ensures ok { IfOk result (StepsTo self.old (statements.Create table columns) self.new) }
+        ensures grows { Grows self.old self.new }
+        ensures err { OnErr result (self.new ≡ self.old) }
+    {
+        if columns.is_empty() {
+            return Ok(self.pass_over());
+        }
+        let reply = answers::created(alloc, self.store.version() + 1)?;
+        let outcome = self.store.create(alloc, table, columns);
+        committed(alloc, outcome, reply)
+    }
+
+    // INSERT.
+    fn insert(
+        &mut self,
+        alloc: Global,
+        table: Text,
+        rows: Items<Items<Lit>>,
+    ) -> Result<Answer, AllocError>
+        ensures ok { IfOk result (StepsTo self.old (statements.Insert table rows) self.new) }
+        ensures grows { Grows self.old self.new }
+        ensures err { OnErr result (self.new ≡ self.old) }
+    {
+        let reply = answers::inserted(alloc, rows.len() as u64, self.store.version() + 1)?;
+        let outcome = self.store.insert(alloc, table, rows);
+        committed(alloc, outcome, reply)
+    }
+
+    // A query.
+    fn ask(&mut self, alloc: Global, query: &Query) -> Result<Answer, AllocError>
+        ensures ok { IfOk result (StepsTo self.old (statements.Query query.now) self.new) }
+        ensures grows { Grows self.old self.new }
+        ensures err { OnErr result (self.new ≡ self.old) }
+    {
+        if !is_performed(query) {
+            return Ok(self.pass_over());
+        }
+        match bind(alloc, self.store.schemas(), query) {
+            Ok(bound) => self.solve(alloc, query, &bound),
+            Err(BindFault::Refused(fault)) => refused(
+                alloc,
+                refused::binding(alloc, None, &fault)?,
+            ),
+            Err(BindFault::Memory(error)) => Err(error),
+        }
+    }
+
+    // A query that is bound.
+    fn solve(
+        &mut self,
+        alloc: Global,
+        query: &Query,
+        bound: &BoundQuery,
+    ) -> Result<Answer, AllocError>
+        requires performed { IsTrue (is_performed query.now) }
+        requires good { faults_of (tables_of self.old) query.now ≡ [] }
+        requires bound { IsBoundTo (tables_of self.old) query.now bound.now }
+        ensures ok { IfOk result (StepsTo self.old (statements.Query query.now) self.new) }
+        ensures grows { Grows self.old self.new }
+        ensures err { OnErr result (self.new ≡ self.old) }
+    {
+        let version = self.store.version();
+        let rows = rows_asked(&self.store, query);
+        match answer(alloc, bound, rows, version)? {
+            Answered::Reply(reply, kept) => {
+                self.kept = Some(kept);
+                Ok(Answer::Made(reply))
             }
-            Built::Insertion(rows) => {
-                let reply = replies::inserted(alloc, rows, version + 1)?;
-                self.changes.push(statement)?;
-                Ok(reply)
-            }
-            Built::Question(values, query) => answer(alloc, values.as_slice(), &query, version),
-            Built::Other => Reply::refused(alloc, errors::NOT_BUILT),
+            Answered::Refused(fault) => refused(alloc, Some(Refusal::Query(fault))),
         }
     }
 }
 
-// What the statement is behind these changes.
-fn find(alloc: Global, changes: &[Statement], statement: &Statement) -> Result<Built, AllocError>
-    ensures { IfOk result (λ found. Finds changes.now statement.now found) }
+// The rows of the table that a query names.
+fn rows_asked<'a>(store: &'a VersionStore, query: &Query) -> &'a [(u64, Row)]
+    ensures value { result.now ≡ rows_asked (replay store.now) query.now }
+    ensures ids { AscendsFrom 0 result.now }
+    ensures tables { AreTables (replay store.now).tables }
 {
-    match changes {
-        [] => Ok(first(statement)),
-        [create] => second(alloc, create, statement),
-        [create, insert] => third(alloc, create, insert, statement),
-        _ => Ok(Built::Other),
+    match store.rows(query.table.as_slice()) {
+        Some(rows) => rows,
+        None => &[],
     }
 }
 
-// What it is where no table is there.
-fn first(statement: &Statement) -> Built
-    ensures { Finds [] statement.now result }
-{
-    if is_create(statement) {
-        Built::Creation
-    } else {
-        Built::Other
-    }
-}
-
-// What it is where the table is there without rows.
-fn second(alloc: Global, create: &Statement, statement: &Statement) -> Result<Built, AllocError>
-    ensures { IfOk result (λ found. Finds (create.now ∷ []) statement.now found) }
-{
-    if !is_create(create) {
-        return Ok(Built::Other);
-    }
-    match inserted(alloc, statement)? {
-        Some(values) => Ok(Built::Insertion(values.len())),
-        None => Ok(Built::Other),
-    }
-}
-
-// What it is where the table has its rows.
-fn third(
+// The answer to a commit, with the reply to an accepted one.
+fn committed(
     alloc: Global,
-    create: &Statement,
-    insert: &Statement,
-    statement: &Statement,
-) -> Result<Built, AllocError>
-    ensures { IfOk result (λ found. Finds (create.now ∷ (insert.now ∷ [])) statement.now found) }
+    outcome: Result<(), CommitFault>,
+    reply: Reply,
+) -> Result<Answer, AllocError>
+    ensures ok { IfOk result (AnswersCommit outcome reply) }
+    ensures err { OnErr result (IsErr outcome) }
 {
-    if !is_create(create) {
-        return Ok(Built::Other);
-    }
-    let Some(values) = inserted(alloc, insert)? else {
-        return Ok(Built::Other);
-    };
-    match bound_query(alloc, statement)? {
-        Some(query) => Ok(question(values, query)),
-        None => Ok(Built::Other),
+    match outcome {
+        Ok(()) => Ok(Answer::Made(reply)),
+        Err(fault) => refused_commit(alloc, &fault),
     }
 }
 
-// A query is answered where its sums are small.
-fn question(values: Items<i64>, query: BoundQuery) -> Built
-    requires values { AreItems InRange values }
-    requires query { IsAsked query }
-    ensures { IsQuestionOr values query result }
+// The answer to a commit that the store refuses.
+fn refused_commit(alloc: Global, fault: &CommitFault) -> Result<Answer, AllocError>
+    ensures { IfOk result (λ answer. RefusesCommit fault.now answer) }
 {
-    if is_small(values.as_slice(), &query) {
-        Built::Question(values, query)
-    } else {
-        Built::Other
+    if let CommitKind::Memory(_) = fault.kind {
+        return Err(AllocError);
+    }
+    refused(alloc, refused::kind(alloc, fault.change, &fault.kind)?)
+}
+
+// The answer that refuses a statement, or none if it can't be told.
+fn refused(alloc: Global, refusal: Option<Refusal>) -> Result<Answer, AllocError>
+    ensures { IfOk result (λ answer. RefusedSo refusal answer) }
+{
+    match refusal {
+        Some(refusal) => Ok(Answer::Made(refusal_reply(alloc, refusal)?)),
+        None => Ok(Answer::NotBuilt),
     }
 }
 
-#[cfg(test)]
-mod tests;
+// No version is asked for, and the method is exact.
+fn is_performed(query: &Query) -> bool
+    ensures { result ≡ is_performed query.now }
+{
+    query.version.is_none() && is_exact(query.method)
+}
+
+fn is_exact(method: Option<Method>) -> bool
+    ensures { result ≡ is_exact method }
+{
+    match method {
+        None | Some(Method::Direct) => true,
+        Some(Method::SketchRefine) => false,
+    }
+}

@@ -1,7 +1,3 @@
-pub mod Blank
-pub mod Turns
+pub mod Writing
 pub mod Running
 pub mod Complete
-pub mod Framed
-pub mod Performed
-pub mod Turned

@@ -1,278 +1,142 @@
 -- What the loop of a session keeps, and how it ends.
-use Rattle.std.proofs.Common.{◌≡◌, inl, inr, ℕ, ◌+◌, ◌*◌, ◌-◌, ◌^◌, ◌<◌, ◌≤◌, min, List, [], ◌∷◌, ◌++◌, length, Option, Some, None, Vec, Global, codes, refl, sym, ap, subst, ◌∙◌, append-nil, append_assoc, length-append, arith}
-use Rattle.std.proofs.Math.Nat.{le_trans, min-le_left, min-le_right, le-min}
-use Rattle.std.proofs.lemmas.Grind.{flat_map-append}
-use Rattle.paql_ast.specs.declared.statements.Statement.{Statement}
-use Rattle.session_proto.specs.Input.{Input, fed}
-use Rattle.session_proto.proofs.SessionSteps.{stands_fed}
-use Rattle.std.specs.Io.KnownBytes.{Consumes, Appends}
-use Rattle.std.proofs.KnownBytes.{Appends-trans, Consumes-trans}
+use Rattle.std.proofs.Common.{◌≡◌, ℕ, ◌<◌, ◌≤◌, List, [], ◌++◌, length, Option, append-nil, refl, sym, ap, subst, ◌∙◌}
+use Rattle.std.specs.Io.KnownBytes.{Consumes, Keeps}
+use Rattle.std.proofs.KnownBytes.{Appends-trans, Consumes-trans, Consumes-kept, Appends-nil, Consumes-nil}
 use Rattle.pq_base.specs.Outside.{Rose}
-use Rattle.session_proto.specs.Replies.{ReplyData, reply_text, refusal}
-use Rattle.session_proto.specs.Sessions.{Frame, Begins, AreFrames, Stands}
-use Rattle.session_server.specs.Ends.{EndsWith, HasCause, IsTranscript, WritesSome, WritesWhole}
-use Rattle.session_server.specs.Reads.{Reads, TakesMore}
-use Rattle.session_server.specs.Serving.{IsServing, ArePerformed, Answered, StopsFor, Turns, size}
-use Rattle.session_server.specs.Streams.{WritesFront}
-use Rattle.session_server.specs.Transcript.{IsLoad, Transcript, texts}
-use Rattle.session_server.specs.declared.conversation.Conversation.{Conversation}
-use Rattle.session_server.specs.declared.conversation.Turn.TheVariants.{Passed, Replied, Wanting, Need, TooLong, Memory}
-use Rattle.session_server.specs.declared.serve.Input.TheVariants.{End}
-use Rattle.session_server.specs.declared.serve.SessionEnd.{SessionEnd}
-use Rattle.session_server.specs.declared.serve.SessionEnd.TheVariants as ends
+use Rattle.pq_base.specs.Shown.{Shown, GivesBytes, TakesBytes, HasEnded, HasFailed, HasNoFault}
+use Rattle.paql_engine.specs.Conversation.{Stage, MachineData, Outside, IsAtStage, IsServing, framing, reading, ended, told, told_at, turns_left, none, input_ended, read_failed, write_failed}
+use Rattle.paql_engine.specs.Ends.{Account, EndsSo}
+use Rattle.paql_engine.specs.Machine.{Continues, Feeds, Writes}
+use Rattle.paql_engine.specs.declared.ending.SessionEnd.{SessionEnd}
+use Rattle.paql_engine.specs.declared.ending.SessionEnd.TheVariants as ends
+use Rattle.paql_engine.specs.declared.ending.TheConstants.{MAX_BYTES}
+use Rattle.paql_engine.proofs.Serving.{account_of}
+use Rattle.session_server.specs.Driving.{PutCause, PutsOwed, PullCause, ReadsMore, IsTold, IsRunning}
+use Rattle.session_server.specs.Ends.{EndsWith, HasCause, IsReadOut}
 
--- the bytes taken so far, their frames, and just the replies to these
-pub record IsRunning (left_old left_now written_old written_now : Option (List ℕ)) (c : Conversation) (taken : ℕ) : Type 0 where
-  pub bytes : List ℕ
-  pub frames : List Frame
-  pub replies : List ReplyData
-  pub consumed : Consumes left_old left_now bytes
-  pub written : Appends written_old written_now (texts replies)
-  pub serving : IsServing bytes frames replies c
-  pub counted : length bytes ≡ taken
-  pub few : taken ≤ 2 ^ 30
+-- ---- faults
 
--- each turn leaves less to do, and each byte that is read adds less than it takes away
-abbrev pub work : ℕ → Conversation → ℕ
-work taken c = 3 * (2 ^ 30 - taken) + size c
+fails_later : (old between now : Shown) → HasNoFault old between → HasFailed between now → HasFailed old now
+fails_later old between now fine failed = subst (λ (n : ℕ). Rose n now.faults) fine failed
 
--- ---- performed
+fine_later : (old between now : Shown) → HasNoFault old between → HasNoFault between now → HasNoFault old now
+fine_later old between now fine more = more ∙ fine
 
--- the frames before a framer were performed
-begins_at : (bytes : List ℕ) (frames : List Frame) (before : Option (List ℕ)) (input : Input) → Stands IsLoad bytes frames before input
-    → (rest : List ℕ) × Begins IsLoad bytes frames rest
-begins_at bytes frames None input stands = (stands.rest, stands.begins)
-begins_at bytes frames (Some words) input stands = (stands.rest, stands.begins)
+-- ---- the loop
 
-performed_at : (bytes : List ℕ) (frames : List Frame) (replies : List ReplyData) (before : Option (List ℕ)) (input : Input) (changes : List Statement)
-    → Stands IsLoad bytes frames before input → Transcript [] frames replies changes → ArePerformed bytes frames replies
-performed_at bytes frames replies before input changes stands transcript =
-    let begins = begins_at bytes frames before input stands in
-    record { rest = begins.0; changes = changes; begins = begins.1; transcript = transcript }
+pub begins : (source sink : Shown) (machine : MachineData) → IsServing [] [] machine → told machine ≡ none → IsRunning source source sink sink machine
+begins source sink machine serving is = record {
+  bytes = [];
+  written = [];
+  read = Consumes-nil source.bytes;
+  wrote = Appends-nil sink.bytes;
+  serving = serving;
+  cause = subst (λ (o : Outside). IsTold source source sink sink o) (sym is) (refl, refl);
+}
 
-pub performed : (bytes : List ℕ) (frames : List Frame) (replies : List ReplyData) (c : Conversation) → IsServing bytes frames replies c → ArePerformed bytes frames replies
-performed bytes frames replies c is = performed_at bytes frames replies is.before c.framer c.session is.stands is.transcript
+-- neither the source nor the sink was asked
+pub goes_on : (source source_now sink sink_now : Shown) (old new : MachineData) → Continues old new → told new ≡ told old
+    → IsRunning source source_now sink sink_now old → IsRunning source source_now sink sink_now new
+goes_on source source_now sink sink_now old new continues same run = record {
+  bytes = run.bytes;
+  written = run.written;
+  read = run.read;
+  wrote = run.wrote;
+  serving = continues run.bytes run.written run.serving;
+  cause = subst (λ (o : Outside). IsTold source source_now sink sink_now o) (sym same) run.cause;
+}
 
--- so they were where more bytes came that could not be held
-pub performed_more : (bytes piece : List ℕ) (frames : List Frame) (replies : List ReplyData) (c : Conversation) → IsServing bytes frames replies c
-    → ArePerformed (bytes ++ piece) frames replies
-performed_more bytes piece frames replies c is =
-    performed_at (bytes ++ piece) frames replies is.before (fed c.framer piece) c.session (stands_fed IsLoad bytes piece frames is.before c.framer is.stands) is.transcript
+-- while nothing was told, neither failed
+fine_so_far : (source source_now sink sink_now : Shown) (machine : MachineData) → told machine ≡ none → IsRunning source source_now sink sink_now machine
+    → HasNoFault source source_now × HasNoFault sink sink_now
+fine_so_far source source_now sink sink_now machine is run = subst (λ (o : Outside). IsTold source source_now sink sink_now o) is run.cause
 
--- ---- the bytes of replies
+told_by_sink : (source source_now sink sink_now next : Shown) (outside : Outside) → HasNoFault source source_now × HasNoFault sink sink_now → PutCause sink_now next outside
+    → IsTold source source_now sink next outside
+told_by_sink source source_now sink sink_now next none fine cause = (fine.0, fine_later sink sink_now next fine.1 cause)
+told_by_sink source source_now sink sink_now next write_failed fine cause = (fine.0, fails_later sink sink_now next fine.1 cause)
+told_by_sink source source_now sink sink_now next input_ended fine cause = absurd cause
+told_by_sink source source_now sink sink_now next read_failed fine cause = absurd cause
 
-texts_more : (replies : List ReplyData) (reply : ReplyData) → texts (replies ++ reply ∷ []) ≡ texts replies ++ reply_text reply
-texts_more replies reply = flat_map-append reply_text replies (reply ∷ []) ∙ ap (λ (l : List ℕ). texts replies ++ l) (append-nil (reply_text reply))
+pub puts : (source source_now sink sink_now next : Shown) (old new : MachineData) → old.talk.stage ≡ framing → PutsOwed sink_now next old new
+    → IsRunning source source_now sink sink_now old → IsRunning source source_now sink next new
+puts source source_now sink sink_now next old new is did run = record {
+  bytes = run.bytes;
+  written = run.written ++ did.piece;
+  read = run.read;
+  wrote = Appends-trans sink.bytes sink_now.bytes next.bytes run.written did.piece run.wrote did.wrote;
+  serving = did.writes run.bytes run.written run.serving;
+  cause = told_by_sink source source_now sink sink_now next (told new) (fine_so_far source source_now sink sink_now old (ap (λ (s : Stage). told_at s) is) run) did.cause;
+}
 
--- ---- one turn
+told_by_source : (source source_now next sink sink_now : Shown) (outside : Outside) → HasNoFault source source_now × HasNoFault sink sink_now → PullCause source_now next outside
+    → IsTold source next sink sink_now outside
+told_by_source source source_now next sink sink_now none fine cause = (fine_later source source_now next fine.0 cause, fine.1)
+told_by_source source source_now next sink sink_now input_ended fine cause = (fine_later source source_now next fine.0 cause.0, fine.1, cause.1)
+told_by_source source source_now next sink sink_now read_failed fine cause = (fails_later source source_now next fine.0 cause, fine.1)
+told_by_source source source_now next sink sink_now write_failed fine cause = absurd cause
 
-module _ (left_old left_now written_old written_now : Option (List ℕ)) (c d : Conversation) (taken : ℕ) (run : IsRunning left_old left_now written_old written_now c taken) where
-  -- not too many bytes were taken
-  within : length run.bytes ≤ 2 ^ 30
-  within = omega (arith, run.counted, run.few)
+pub pulls : (source source_now next sink sink_now : Shown) (old new : MachineData) → old.talk.stage ≡ reading → ReadsMore source_now next old new
+    → IsRunning source source_now sink sink_now old → IsRunning source next sink sink_now new
+pulls source source_now next sink sink_now old new is reads run = record {
+  bytes = run.bytes ++ reads.piece;
+  written = run.written;
+  read = Consumes-trans source.bytes source_now.bytes next.bytes run.bytes reads.piece run.read reads.read;
+  wrote = run.wrote;
+  serving = reads.feeds run.bytes run.written run.serving;
+  cause = told_by_source source source_now next sink sink_now (told new) (fine_so_far source source_now sink sink_now old (ap (λ (s : Stage). told_at s) is) run) reads.cause;
+}
 
-  -- nothing was written
-  pub passes : Turns c Passed d → IsRunning left_old left_now written_old written_now d taken × (work taken d < work taken c)
-  passes turns =
-      let turned = turns run.bytes run.frames run.replies run.serving in (
-        record {
-          bytes = run.bytes;
-          frames = run.frames;
-          replies = run.replies;
-          consumed = run.consumed;
-          written = run.written;
-          serving = turned.0;
-          counted = run.counted;
-          few = run.few;
-        },
-        omega (arith, turned.1),
-      )
+-- a read that gave nothing
+pub reads_nothing : (source now : Shown) (old new : MachineData) (outside : Outside) → Consumes source.bytes now.bytes [] → Continues old new → told new ≡ outside → PullCause source now outside
+    → turns_left new.talk < turns_left old.talk → ReadsMore source now old new
+reads_nothing source now old new outside read continues is cause turns = record {
+  piece = [];
+  read = read;
+  feeds = λ (bytes written : List ℕ). λ serving. subst (λ (l : List ℕ). IsServing l written new) (sym (append-nil bytes)) (continues bytes written serving);
+  cause = subst (λ (o : Outside). PullCause source now o) (sym is) cause;
+  turns = turns;
+}
 
-  -- a reply was written
-  answered : (reply : ReplyData) (written_new : Option (List ℕ)) → Answered run.bytes run.frames run.replies reply d → Appends written_now written_new (reply_text reply)
-      → IsRunning left_old left_now written_old written_new d taken
-  answered reply written_new is more = record {
-    bytes = run.bytes;
-    frames = run.frames ++ is.0 ∷ [];
-    replies = run.replies ++ reply ∷ [];
-    consumed = run.consumed;
-    written = subst (Appends written_old written_new) (sym (texts_more run.replies reply)) (Appends-trans written_old written_now written_new (texts run.replies) (reply_text reply) run.written more);
-    serving = is.1;
-    counted = run.counted;
-    few = run.few;
-  }
+pub consumes_nothing : (old now : Option (List ℕ)) → Keeps old now → Consumes old now []
+consumes_nothing old now keeps = Consumes-kept old old now [] (Consumes-nil old) keeps
 
-  pub replies_to : (out : Vec ℕ Global) (written_new : Option (List ℕ)) → Turns c (Replied out) d → Appends written_now written_new out.items
-      → IsRunning left_old left_now written_old written_new d taken × (work taken d < work taken c)
-  replies_to out written_new turns more =
-      let turned = turns run.bytes run.frames run.replies run.serving in
-      (answered turned.0 written_new turned.2 (subst (Appends written_now written_new) turned.1 more), omega (arith, turned.3))
+-- ---- the end
 
-  pub wants : (written_new : Option (List ℕ)) → Turns c Wanting d → Appends written_now written_new (reply_text (refusal (codes "memory")))
-      → IsRunning left_old left_now written_old written_new d taken × (work taken d < work taken c)
-  wants written_new turns more =
-      let turned = turns run.bytes run.frames run.replies run.serving in
-      (answered (refusal (codes "memory")) written_new turned.0 more, omega (arith, turned.1))
+ended_by : (source source_now sink sink_now : Shown) (end : SessionEnd) → IsTold source source_now sink sink_now (told_at (ended end))
+    → HasCause source source_now sink sink_now end × (IsReadOut end → HasEnded source_now)
+ended_by source source_now sink sink_now ends.Done cause = ((cause.0, cause.1), λ out. cause.2)
+ended_by source source_now sink sink_now ends.Truncated cause = ((cause.0, cause.1), λ out. cause.2)
+ended_by source source_now sink sink_now ends.ReadFault cause = (cause, λ out. absurd out)
+ended_by source source_now sink sink_now ends.WriteFault cause = (cause, λ out. absurd out)
+ended_by source source_now sink sink_now ends.Memory cause = (cause, λ out. absurd out)
+ended_by source source_now sink sink_now ends.TooLong cause = (cause, λ out. absurd out)
+ended_by source source_now sink sink_now ends.SessionLimit cause = (cause, λ out. absurd out)
 
-  -- a front of a reply was written
-  answered_some : (reply : ReplyData) (written_new : Option (List ℕ)) → Answered run.bytes run.frames run.replies reply d → WritesFront written_now written_new (reply_text reply)
-      → WritesSome left_old left_now written_old written_new
-  answered_some reply written_new is some = record {
-    bytes = run.bytes;
-    frames = run.frames ++ is.0 ∷ [];
-    replies = run.replies ++ reply ∷ [];
-    read = run.consumed;
-    most = within;
-    performed = performed run.bytes (run.frames ++ is.0 ∷ []) (run.replies ++ reply ∷ []) d is.1;
-    written = record {
-      front = texts run.replies ++ some.front;
-      back = some.back;
-      whole = texts_more run.replies reply ∙ ap (λ (l : List ℕ). texts run.replies ++ l) some.whole ∙ sym (append_assoc (texts run.replies) some.front some.back);
-      written = Appends-trans written_old written_now written_new (texts run.replies) some.front run.written some.written;
-    };
-  }
+cause_at : (source source_now sink sink_now : Shown) (machine : MachineData) (end : SessionEnd) → machine.talk.stage ≡ ended end → IsRunning source source_now sink sink_now machine
+    → IsTold source source_now sink sink_now (told_at (ended end))
+cause_at source source_now sink sink_now machine end is run = subst (λ (s : Stage). IsTold source source_now sink sink_now (told_at s)) is run.cause
 
-  pub replies_some : (out : Vec ℕ Global) (written_new : Option (List ℕ)) → Turns c (Replied out) d → WritesFront written_now written_new out.items
-      → WritesSome left_old left_now written_old written_new
-  replies_some out written_new turns some =
-      let turned = turns run.bytes run.frames run.replies run.serving in
-      answered_some turned.0 written_new turned.2 (subst (WritesFront written_now written_new) turned.1 some)
+pub has_cause : (source source_now sink sink_now : Shown) (machine : MachineData) (end : SessionEnd) → machine.talk.stage ≡ ended end → IsRunning source source_now sink sink_now machine
+    → HasCause source source_now sink sink_now end
+has_cause source source_now sink sink_now machine end is run = (ended_by source source_now sink sink_now end (cause_at source source_now sink sink_now machine end is run)).0
 
-  pub wants_some : (written_new : Option (List ℕ)) → Turns c Wanting d → WritesFront written_now written_new (reply_text (refusal (codes "memory")))
-      → WritesSome left_old left_now written_old written_new
-  wants_some written_new turns some =
-      let turned = turns run.bytes run.frames run.replies run.serving in
-      answered_some (refusal (codes "memory")) written_new turned.0 some
+few_taken : (n taken : ℕ) → n ≡ taken → taken ≤ MAX_BYTES → n ≤ MAX_BYTES
+few_taken n taken same few = subst (λ (m : ℕ). m ≤ MAX_BYTES) (sym same) few
 
-  -- memory was wanting
-  stops_for : StopsFor run.bytes run.frames run.replies → WritesWhole left_old left_now written_old written_now
-  stops_for (inl performed) = record {
-    bytes = run.bytes;
-    frames = run.frames;
-    replies = run.replies;
-    written_replies = run.replies;
-    read = run.consumed;
-    most = within;
-    performed = performed;
-    all_or_but_one = inl refl;
-    written = run.written;
-  }
-  stops_for (inr (frame, reply, performed)) = record {
-    bytes = run.bytes;
-    frames = run.frames ++ frame ∷ [];
-    replies = run.replies ++ reply ∷ [];
-    written_replies = run.replies;
-    read = run.consumed;
-    most = within;
-    performed = performed;
-    all_or_but_one = inr (reply, refl);
-    written = run.written;
-  }
-
-  pub stops : Turns c Memory d → WritesWhole left_old left_now written_old written_now
-  stops turns = stops_for (turns run.bytes run.frames run.replies run.serving)
-
-  -- all frames were answered, and what was read is told
-  transcript_of : (rest : List ℕ) (left_new : Option (List ℕ)) → Consumes left_old left_new run.bytes → AreFrames IsLoad run.bytes run.frames rest
-      → IsTranscript left_old left_new written_old written_now
-  transcript_of rest left_new read are = record {
-    bytes = run.bytes;
-    frames = run.frames;
-    rest = rest;
-    replies = run.replies;
-    changes = c.session;
-    read = read;
-    most = within;
-    are = are;
-    transcript = run.serving.transcript;
-    written = run.written;
-  }
-
-  pub too_long : Turns c TooLong d → EndsWith left_old left_now written_old written_now ends.TooLong
-  unfolding transcript_of
-  too_long turns =
-      let turned = turns run.bytes run.frames run.replies run.serving in
-      (transcript_of turned.rest left_now run.consumed turned.are, turned.long)
-
-  -- ---- a read
-
-  -- more bytes came
-  pub goes_on : (left_new : Option (List ℕ)) (count : ℕ) (e : Conversation) → Turns c Need d → TakesMore (2 ^ 30 - taken) left_now left_new count d e
-      → IsRunning left_old left_new written_old written_now e (taken + count) × (work (taken + count) e < work taken c)
-  goes_on left_new count e turns takes =
-      let turned = turns run.bytes run.frames run.replies run.serving in (
-        record {
-          bytes = run.bytes ++ takes.piece;
-          frames = run.frames;
-          replies = run.replies;
-          consumed = Consumes-trans left_old left_now left_new run.bytes takes.piece run.consumed takes.consumed;
-          written = run.written;
-          serving = takes.stands run.bytes run.frames run.replies turned.0;
-          counted = length-append run.bytes takes.piece ∙ ap (λ (n : ℕ). n + length takes.piece) run.counted ∙ ap (λ (n : ℕ). taken + n) takes.counted;
-          few = omega (arith, run.few, takes.most);
-        },
-        omega (arith, turned.2, takes.size_is, takes.some, takes.most, run.few),
-      )
-
-  -- nothing came
-  reads_none : (left_new : Option (List ℕ)) → Consumes left_now left_new [] → Consumes left_old left_new run.bytes
-  reads_none left_new none = subst (Consumes left_old left_new) (append-nil run.bytes) (Consumes-trans left_old left_now left_new run.bytes [] run.consumed none)
-
-  -- the session ends
-  pub ends_so : (left_new : Option (List ℕ)) (before now : ℕ) (end : SessionEnd) (e : Conversation) → Turns c Need d → Reads (2 ^ 30 - taken) left_now left_new before now d (End end) e
-      → EndsWith left_old left_new written_old written_now end
-  unfolding transcript_of
-  ends_so left_new before now ends.Done e turns (none, at_end, clean) =
-      let turned = turns run.bytes run.frames run.replies run.serving in
-      let all = turned.1 in
-      (transcript_of all.rest left_new (reads_none left_new none.consumed) all.are, at_end, all.clean.0 clean, all.not_long)
-  ends_so left_new before now ends.Truncated e turns (none, at_end, unclean) =
-      let turned = turns run.bytes run.frames run.replies run.serving in
-      let all = turned.1 in
-      (transcript_of all.rest left_new (reads_none left_new none.consumed) all.are, at_end, (λ is. unclean (all.clean.1 is)), all.not_long)
-  ends_so left_new before now ends.ReadFault e turns (none, rose) =
-      let turned = turns run.bytes run.frames run.replies run.serving in
-      let all = turned.1 in
-      (transcript_of all.rest left_new (reads_none left_new none.consumed) all.are, all.not_long)
-  ends_so left_new before now ends.SessionLimit e turns (none, no_room) =
-      let turned = turns run.bytes run.frames run.replies run.serving in
-      let all = turned.1 in
-      (transcript_of all.rest left_new (reads_none left_new none.consumed) all.are, omega (arith, run.counted, no_room), all.not_long)
-  ends_so left_new before now ends.Memory e turns (piece, consumed, short, same) =
-      let turned = turns run.bytes run.frames run.replies run.serving in
-      record {
-        bytes = run.bytes ++ piece;
-        frames = run.frames;
-        replies = run.replies;
-        written_replies = run.replies;
-        read = Consumes-trans left_old left_now left_new run.bytes piece run.consumed consumed;
-        most = omega (arith, length-append run.bytes piece, run.counted, run.few, short);
-        performed = performed_more run.bytes piece run.frames run.replies d turned.0;
-        all_or_but_one = inl refl;
-        written = run.written;
-      }
-  ends_so left_new before now ends.WriteFault e turns none = absurd none
-  ends_so left_new before now ends.TooLong e turns none = absurd none
-
--- ---- causes
-
--- a count that rose from a later one rose
-rose_later : (old before now : ℕ) → old ≤ before → Rose before now → Rose old now
-rose_later old before now later rose = le_trans (min_mono (old + 1) (before + 1) (2 ^ 64 - 1) (omega (arith, later))) rose
-  where
-    min_mono : (a b most : ℕ) → a ≤ b → min a most ≤ min b most
-    min_mono a b most less = le-min (le_trans (min-le_left a most) less) (min-le_right a most)
-
--- no other end than a fault of the source comes of a read
-pub read_cause : (room : ℕ) (left_now left_new : Option (List ℕ)) (old before now write_old write_new : ℕ) (d e : Conversation) (end : SessionEnd) → old ≤ before
-    → Reads room left_now left_new before now d (End end) e → HasCause old now write_old write_new end
-read_cause room left_now left_new old before now write_old write_new d e ends.ReadFault later reads = record { read = λ is. rose_later old before now later reads.1; write = λ is. absurd cc }
-read_cause room left_now left_new old before now write_old write_new d e ends.WriteFault later reads = absurd reads
-read_cause room left_now left_new old before now write_old write_new d e ends.Done later reads = record { read = λ is. absurd cc; write = λ is. absurd cc }
-read_cause room left_now left_new old before now write_old write_new d e ends.Truncated later reads = record { read = λ is. absurd cc; write = λ is. absurd cc }
-read_cause room left_now left_new old before now write_old write_new d e ends.Memory later reads = record { read = λ is. absurd cc; write = λ is. absurd cc }
-read_cause room left_now left_new old before now write_old write_new d e ends.TooLong later reads = absurd reads
-read_cause room left_now left_new old before now write_old write_new d e ends.SessionLimit later reads = record { read = λ is. absurd cc; write = λ is. absurd cc }
-
-pub write_cause : (read_old read_new old before now : ℕ) → old ≤ before → Rose before now → HasCause read_old read_new old now ends.WriteFault
-write_cause read_old read_new old before now later rose = record { read = λ is. absurd cc; write = λ is. rose_later old before now later rose }
+pub ends_with : (source source_now sink sink_now : Shown) (machine : MachineData) (end : SessionEnd) → machine.talk.stage ≡ ended end → IsRunning source source_now sink sink_now machine
+    → EndsWith source source_now sink sink_now end
+ends_with source source_now sink sink_now machine end is run =
+    let account : Account = account_of run.bytes run.serving.frames run.serving.replies run.written in
+    let so : EndsSo account end = subst (λ (s : Stage). IsAtStage account machine.talk s) is run.serving.serves.stage in
+    record {
+      account = account;
+      history = machine.session.history;
+      state = machine.session.state;
+      read = run.read;
+      most = few_taken (length run.bytes) machine.talk.taken run.serving.serves.counted run.serving.serves.few;
+      transcript = run.serving.serves.transcript;
+      wrote = run.wrote;
+      ends = so;
+      read_out = (ended_by source source_now sink sink_now end (cause_at source source_now sink sink_now machine end is run)).1;
+    }

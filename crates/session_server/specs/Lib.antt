@@ -1,6 +1,3 @@
-pub mod Transcript
-pub mod Reading
-pub mod Serving
 pub mod Streams
-pub mod Reads
 pub mod Ends
+pub mod Driving

@@ -1,17 +1,12 @@
+-- Private: `src/streams.rt`: what writing a whole text does.
 -- What writing a whole text does.
-use Rattle.std.specs.Prelude.{◌≡◌, ℕ, List, ◌++◌, Option}
-use Rattle.std.specs.Io.KnownBytes.{Appends}
-use Rattle.pq_base.specs.Outside.{Rose}
+use Rattle.std.specs.Prelude.{ℕ, ◌≤◌, List, length, take}
+use Rattle.pq_base.specs.Shown.{Shown, TakesBytes, HasFailed, HasNoFault}
 use Rattle.session_server.specs.declared.streams.Put.{Put}
 use Rattle.session_server.specs.declared.streams.Put.TheVariants.{All, Failed}
 
--- a front of the text was written, and no more
-pub record WritesFront (old new : Option (List ℕ)) (text : List ℕ) : Type 0 where
-  pub front : List ℕ
-  pub back : List ℕ
-  pub whole : text ≡ front ++ back
-  pub written : Appends old new front
-
-abbrev pub IsPut : Option (List ℕ) → Option (List ℕ) → ℕ → ℕ → List ℕ → Put → Type 0
-IsPut old new before now text All = Appends old new text
-IsPut old new before now text Failed = WritesFront old new text × Rose before now
+-- all of it was written, or so many of its first bytes before the sink failed
+abbrev pub IsPut : Shown → Shown → List ℕ → Put → Type 0
+IsPut sink now text All = TakesBytes sink now text × HasNoFault sink now
+IsPut sink now text (Failed count) =
+    (count ≤ length text) × TakesBytes sink now (take count text) × HasFailed sink now

@@ -1,104 +1,79 @@
-//! The loop over a session's bytes.
-ghost use Rattle.std.specs.Prelude.{◌≤◌};
-ghost use Rattle.session_server.specs.Reads.{Reads, IsEnd};
+//! The driver of a session machine over a source and a sink.
+ghost use Rattle.std.specs.Prelude.{◌≡◌, ◌≢◌, ◌<◌, [], ℕ, List};
+ghost use Rattle.pq_base.specs.Shown.{shown};
+ghost use Rattle.paql_engine.specs.Conversation.{told, turns_left, framing, reading, none};
+ghost use Rattle.paql_engine.specs.Machine.{Continues, HasText, room_of};
+ghost use Rattle.session_server.specs.Driving.{PutsOwed, ReadsMore};
 ghost use Rattle.session_server.specs.Ends.{EndsWith, HasCause, IsWholeScript, IsDoneOrFault};
 
-use crate::conversation::{Conversation, Turn};
+use crate::reading::read_text;
 use crate::streams::{Put, put_all};
+use paql_engine::{MAX_READ, Machine, SessionEnd, Wish};
 use pq_base::{Pull, Sink, Source};
-use session_proto::memory_line;
 use std::alloc::Global;
 
-/// A session takes no more bytes than this.
-pub const MAX_BYTES: usize = 1 << 30;
-
-/// How a session ends.
-#[derive(Clone, Copy, Debug, PartialEq, Eq)]
-pub enum SessionEnd {
-    /// The input ended clean.
-    Done,
-    /// It ended inside a statement or a body.
-    Truncated,
-    /// The source failed.
-    ReadFault,
-    /// The sink failed.
-    WriteFault,
-    /// Memory was wanting outside a statement.
-    Memory,
-    /// A statement is longer than any may be.
-    TooLong,
-    /// `MAX_BYTES` were taken.
-    SessionLimit,
-}
-
-/// Answers the statements of a source, from no table on. It reads only where the bytes taken hold no further whole
-/// statement and every reply so far is written.
+/// Answers the statements of a source, from no table on. It reads only when the machine wishes to, which is when the
+/// bytes taken hold no further whole statement and every reply so far is written.
 pub fn serve_session<S: Source, K: Sink>(alloc: Global, source: &mut S, sink: &mut K) -> SessionEnd
-    ensures ends { EndsWith (S.left source.old) (S.left source.new) (K.written sink.old) (K.written sink.new) result }
-    ensures cause { HasCause (S.faults source.old) (S.faults source.new) (K.faults sink.old) (K.faults sink.new) result }
+    ensures ends { EndsWith (shown S.left S.faults source.old) (shown S.left S.faults source.new)
+        (shown K.written K.faults sink.old) (shown K.written K.faults sink.new) result }
+    ensures cause { HasCause (shown S.left S.faults source.old) (shown S.left S.faults source.new)
+        (shown K.written K.faults sink.old) (shown K.written K.faults sink.new) result }
     ensures complete { IsWholeScript (S.left source.old) → IsDoneOrFault result }
 {
-    let mut conversation = Conversation::new(alloc);
-    let mut taken = 0;
+    let mut machine = Machine::new(alloc);
     loop {
-        match conversation.turn(alloc) {
-            Turn::Passed => {}
-            Turn::Replied(bytes) => match put_all(sink, &bytes) {
-                Put::All => {}
-                Put::Failed => return SessionEnd::WriteFault,
-            },
-            Turn::Wanting => match put_all(sink, memory_line()) {
-                Put::All => {}
-                Put::Failed => return SessionEnd::WriteFault,
-            },
-            Turn::Memory => return SessionEnd::Memory,
-            Turn::TooLong => return SessionEnd::TooLong,
-            Turn::Need => match read_more(source, &mut conversation, MAX_BYTES - taken) {
-                Input::More(count) => taken += count,
-                Input::End(end) => return end,
-            },
+        match machine.wish(alloc) {
+            Wish::Parse => parse_next(alloc, &mut machine),
+            Wish::Write => write_owed(sink, &mut machine),
+            Wish::Read(room) => read_more(source, &mut machine, room),
+            Wish::End(end) => return end,
         }
     }
 }
 
-// What came of a read.
-#[derive(Clone, Copy, Debug, PartialEq, Eq)]
-enum Input {
-    /// So many bytes came.
-    More(usize),
-    /// The session ends.
-    End(SessionEnd),
-}
-
-// Reads once, where room for more bytes is left, and hands them on.
-fn read_more<S: Source>(source: &mut S, conversation: &mut Conversation, room: usize) -> Input
-    ensures later { S.faults source.old ≤ S.faults source.new }
-    ensures read { Reads room (S.left source.old) (S.left source.new) (S.faults source.old) (S.faults source.new) conversation.old result conversation.new }
+// Tells the machine what its text is.
+fn parse_next(alloc: Global, machine: &mut Machine)
+    requires { (words : List ℕ) × HasText machine.old words }
+    ensures continues { Continues machine.old machine.new }
+    ensures told { told machine.new ≡ none }
+    ensures turns { turns_left machine.new.talk < turns_left machine.old.talk }
 {
-    if room == 0 {
-        return Input::End(SessionEnd::SessionLimit);
-    }
-    let mut buf = [0u8; 4096];
-    match source.read(&mut buf[..room.min(4096)]) {
-        Pull::Failed => Input::End(SessionEnd::ReadFault),
-        Pull::Got(0) => Input::End(end_of(conversation)),
-        Pull::Got(count) => match conversation.feed(&buf[..count]) {
-            Ok(()) => Input::More(count),
-            Err(_) => Input::End(SessionEnd::Memory),
-        },
-    }
+    let parsed = read_text(alloc, machine.text());
+    machine.parsed(alloc, parsed);
 }
 
-// How the session ends where the input ends.
-fn end_of(conversation: &Conversation) -> SessionEnd
-    ensures { IsEnd conversation.now result }
+// Writes what is owed.
+fn write_owed<K: Sink>(sink: &mut K, machine: &mut Machine)
+    requires stage { machine.old.talk.stage ≡ framing }
+    requires owed { machine.old.talk.owed ≢ [] }
+    ensures { PutsOwed (shown K.written K.faults sink.old) (shown K.written K.faults sink.new)
+        machine.old machine.new }
 {
-    if conversation.is_clean() {
-        SessionEnd::Done
-    } else {
-        SessionEnd::Truncated
+    match put_all(sink, machine.owed()) {
+        Put::All => {
+            let all = machine.owed().len();
+            machine.wrote(all);
+        }
+        Put::Failed(count) => {
+            machine.wrote(count);
+            machine.write_failed();
+        }
     }
 }
 
-#[cfg(test)]
-mod tests;
+// Reads once, and hands on what came.
+fn read_more<S: Source>(source: &mut S, machine: &mut Machine, room: usize)
+    requires stage { machine.old.talk.stage ≡ reading }
+    requires room { room ≡ room_of machine.old }
+    requires some { 0 < room }
+    ensures { ReadsMore (shown S.left S.faults source.old) (shown S.left S.faults source.new)
+        machine.old machine.new }
+{
+    let mut buf = [0u8; MAX_READ];
+    match source.read(&mut buf[..room]) {
+        Pull::Failed => machine.read_failed(),
+        Pull::Got(0) => machine.input_ended(),
+        Pull::Got(count) => machine.feed(&buf[..count]),
+    }
+}

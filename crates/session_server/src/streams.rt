@@ -1,5 +1,5 @@
 //! Writing a whole text.
-ghost use Rattle.std.specs.Prelude.{◌≤◌};
+ghost use Rattle.pq_base.specs.Shown.{shown};
 ghost use Rattle.session_server.specs.Streams.{IsPut};
 
 use pq_base::{Push, Sink};
@@ -9,20 +9,20 @@ use pq_base::{Push, Sink};
 pub(crate) enum Put {
     /// All of it was written.
     All,
-    /// The sink failed.
-    Failed,
+    /// The sink failed after so many bytes.
+    Failed(usize),
 }
 
 /// Writes the whole text, in as many pieces as the sink takes it.
 pub(crate) fn put_all<K: Sink>(sink: &mut K, text: &[u8]) -> Put
-    ensures put { IsPut (K.written sink.old) (K.written sink.new) (K.faults sink.old) (K.faults sink.new) text.now result }
-    ensures later { K.faults sink.old ≤ K.faults sink.new }
+    ensures { IsPut (shown K.written K.faults sink.old) (shown K.written K.faults sink.new)
+        text.now result }
 {
-    let mut rest = text;
-    while !rest.is_empty() {
-        match sink.write(rest) {
-            Push::Failed => return Put::Failed,
-            Push::Took(count) => rest = rest.split_at(count).1,
+    let mut at = 0;
+    while at < text.len() {
+        match sink.write(text.split_at(at).1) {
+            Push::Took(count) => at += count,
+            Push::Failed => return Put::Failed(at),
         }
     }
     Put::All

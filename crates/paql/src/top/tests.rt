@@ -19,7 +19,7 @@ const NOTHING: &str = "{\"objective\":\"0\",\"package\":[],\"status\":\"optimal\
 const INFEASIBLE: &str = "{\"status\":\"infeasible\",\"version\":2}\n";
 
 // One run over memory: the words, the input, the most that one read gives, and the number of the read and of the
-// write that fail, where 0 is none.
+// write that fail; 0 is none.
 #[derive(Clone, Copy)]
 struct Run<'a> {
     words: &'a [&'a str],
@@ -66,12 +66,12 @@ fn table_of(alloc: Global, values: &str) -> Result<String, AllocError> {
     format!(in alloc; "CREATE TABLE T (v INT); INSERT INTO T VALUES {values};")
 }
 
-// The query with this behind REPEAT, and this behind the goal.
+// The query with this after REPEAT, and this after the goal.
 fn query_of(alloc: Global, asks: &str, ending: &str) -> Result<String, AllocError> {
     format!(in alloc; "SELECT PACKAGE(T) AS P FROM T REPEAT {asks} MAXIMIZE SUM(P.v){ending}")
 }
 
-// The table of so many values is made, and the text behind it is answered by this line.
+// The table of so many values is made, and the text after it is answered by this line.
 fn assert_last(
     rt: &impl Abort,
     alloc: Global,
@@ -200,43 +200,126 @@ fn spellings_make_no_difference(rt: HostRuntime) -> Result<(), Fail> {
 }
 
 #[test]
-fn other_queries_are_not_built(rt: HostRuntime) -> Result<(), Fail> {
+fn queries_are_refused(rt: HostRuntime) -> Result<(), Fail> {
     let alloc = rt.alloc();
-    let large = "(1000000000000),(1000000000000)";
-    for (values, rows, asks, ending) in [
-        ("(5)", 1, "1000000 SUCH THAT SUM(P.v) <= 14", ";"),
-        ("(5)", 1, "5000000 SUCH THAT SUM(P.v) <= 14", ";"),
+    for (asks, keys) in [
         (
-            "(5)",
-            1,
-            "5000000 SUCH THAT COUNT(P.*) >= 3 AND SUM(P.v) <= 3",
-            ";",
+            "FROM S REPEAT 1",
+            "\"error\":\"notable\",\"name\":\"S\",\"status\":\"refused\"",
         ),
-        (large, 2, "999999 SUCH THAT SUM(P.v) <= 14", ";"),
-        ("(5)", 1, "2 SUCH THAT SUM(P.v) < 14", ";"),
-        ("(5)", 1, "2 SUCH THAT SUM(P.v) <= -0", ";"),
-        ("(5)", 1, "2 SUCH THAT SUM(P.v) <= 1.5", ";"),
-        ("(5)", 1, "2 SUCH THAT AVG(P.v) <= 14", ";"),
-        ("(5)", 1, "2 SUCH THAT SUM(P.v) <= COUNT(P.*)", ";"),
-        ("(5)", 1, "2 WHERE v > 1 SUCH THAT SUM(P.v) <= 14", ";"),
-        ("(5)", 1, "2", ";"),
-        ("(5)", 1, "2 SUCH THAT SUM(P.v) <= 14", " USING DIRECT;"),
-        ("(5)", 1, "2 SUCH THAT SUM(P.v) <= 14", " BUDGET 0;"),
-        ("(5)", 1, "2 SUCH THAT SUM(P.v) <= 14", " BUDGET 20001;"),
+        (
+            "FROM T R REPEAT 1",
+            "\"error\":\"notable\",\"name\":\"T\",\"status\":\"refused\"",
+        ),
+        (
+            "FROM T REPEAT 1 BUDGET 0",
+            "\"error\":\"limitbudget\",\"given\":0,\"status\":\"refused\"",
+        ),
+        (
+            "FROM T REPEAT 1 BUDGET 20001",
+            "\"error\":\"limitbudget\",\"given\":20001,\"status\":\"refused\"",
+        ),
+        (
+            "FROM T REPEAT 1 WHERE P.v = 1",
+            "\"error\":\"nocolumn\",\"name\":\"P.v\",\"status\":\"refused\"",
+        ),
+        (
+            "FROM T REPEAT 1 WHERE v = 'a'",
+            "\"error\":\"wrongkind\",\"name\":\"v\",\"status\":\"refused\"",
+        ),
+        (
+            "FROM T REPEAT 1 WHERE v > 0.0000001",
+            "\"error\":\"toofine\",\"status\":\"refused\"",
+        ),
+        (
+            "FROM T REPEAT 1 WHERE v > 1000000000001",
+            "\"error\":\"literalrange\",\"status\":\"refused\"",
+        ),
+        (
+            "FROM T REPEAT 1 MAXIMIZE 1.5 * SUM(P.v)",
+            "\"error\":\"factor\",\"status\":\"refused\"",
+        ),
+        (
+            "FROM T REPEAT 1 MAXIMIZE 1000001 * SUM(P.v)",
+            "\"error\":\"factor\",\"status\":\"refused\"",
+        ),
+        (
+            "FROM T MAXIMIZE SUM(P.v)",
+            "\"error\":\"unbounded\",\"status\":\"refused\"",
+        ),
+        (
+            "FROM T SUCH THAT COUNT(P.*) >= 3",
+            "\"error\":\"unbounded\",\"status\":\"refused\"",
+        ),
+        (
+            "FROM T SUCH THAT 1 * COUNT(P.*) <= 3",
+            "\"error\":\"unbounded\",\"status\":\"refused\"",
+        ),
+        (
+            "FROM T REPEAT 1000000",
+            "\"error\":\"limitrepeat\",\"given\":1000001,\"status\":\"refused\"",
+        ),
+        (
+            "FROM T SUCH THAT COUNT(P.*) < 1000001.5",
+            "\"error\":\"limitrepeat\",\"given\":1000001,\"status\":\"refused\"",
+        ),
     ] {
-        let query = query_of(alloc, asks, ending)?;
-        assert_last(&rt, alloc, values, rows, &query, NOT_BUILT)?;
+        let text = format!(in alloc; "SELECT PACKAGE(T) AS P {asks};")?;
+        let want = format!(in alloc; "{{{keys}}}\n")?;
+        assert_last(&rt, alloc, "(5)", 1, &text, &want)?;
     }
-    for query in [
-        "SELECT PACKAGE(T) AS P FROM T;",
-        "SELECT PACKAGE(T) AS P FROM T SUCH THAT SUM(P.v) <= 14 MAXIMIZE SUM(P.v);",
-        "SELECT PACKAGE(T) AS P FROM T REPEAT 2 SUCH THAT SUM(P.v) <= 14;",
-        "SELECT PACKAGE(T) AS P FROM T REPEAT 2 SUCH THAT SUM(P.v) <= 14 MINIMIZE SUM(P.v);",
-        "SELECT PACKAGE(T) AS P FROM T REPEAT 2 SUCH THAT SUM(P.w) <= 14 MAXIMIZE SUM(P.v);",
-        "SELECT PACKAGE(T) AS P FROM T AT VERSION 2 REPEAT 2 SUCH THAT SUM(P.v) <= 14 MAXIMIZE SUM(P.v);",
-        "SELECT PACKAGE(T) AS P FROM t REPEAT 2 SUCH THAT SUM(P.v) <= 14 MAXIMIZE SUM(P.v);",
+    let large = query_of(alloc, "999999 SUCH THAT SUM(P.v) <= 14", ";")?;
+    let want =
+        "{\"conjunct\":0,\"error\":\"toolarge\",\"status\":\"refused\",\"total\":\"2000000000000000000\"}\n";
+    assert_last(
+        &rt,
+        alloc,
+        "(1000000000000),(1000000000000)",
+        2,
+        &large,
+        want,
+    )
+}
+
+#[test]
+fn changes_are_refused(rt: HostRuntime) -> Result<(), Fail> {
+    let alloc = rt.alloc();
+    for (change, keys) in [
+        (
+            "CREATE TABLE T (v INT)",
+            "\"error\":\"tableexists\",\"name\":\"T\",\"status\":\"refused\"",
+        ),
+        (
+            "CREATE TABLE S (v INT, v TEXT)",
+            "\"error\":\"duplicatecolumn\",\"name\":\"v\",\"status\":\"refused\"",
+        ),
+        (
+            "CREATE TABLE S (v DEC(7))",
+            "\"error\":\"badscale\",\"name\":\"v\",\"status\":\"refused\"",
+        ),
+        (
+            "INSERT INTO S VALUES (5)",
+            "\"error\":\"notable\",\"name\":\"S\",\"status\":\"refused\"",
+        ),
+        (
+            "INSERT INTO T VALUES (5), (6, 7)",
+            "\"error\":\"arity\",\"have\":2,\"row\":2,\"status\":\"refused\",\"want\":1",
+        ),
     ] {
-        assert_last(&rt, alloc, "(5)", 1, query, NOT_BUILT)?;
+        let text = format!(in alloc; "{change};")?;
+        let want = format!(in alloc; "{{\"change\":1,{keys}}}\n")?;
+        assert_last(&rt, alloc, "(5)", 1, &text, &want)?;
+    }
+    for (value, error) in [
+        ("1.5", "badcell"),
+        ("'a'", "badcell"),
+        ("1000000000001", "outofrange"),
+    ] {
+        let text = format!(in alloc; "INSERT INTO T VALUES (5), ({value});")?;
+        let want = format!(in alloc;
+            "{{\"change\":1,\"column\":\"v\",\"error\":\"{error}\",\"row\":2,\"status\":\"refused\"}}\n"
+        )?;
+        assert_last(&rt, alloc, "(5)", 1, &text, &want)?;
     }
     Ok(())
 }
@@ -257,31 +340,9 @@ fn other_statements_are_not_built(rt: HostRuntime) -> Result<(), Fail> {
         "COMMIT;",
         "ROLLBACK;",
         "CERTIFICATE;",
-        "INSERT INTO T VALUES (5);",
-        "INSERT INTO T VALUES ('a;b''c');",
     ] {
         assert_answered(&rt, alloc, statement, NOT_BUILT)?;
         assert_last(&rt, alloc, "(5)", 1, statement, NOT_BUILT)?;
-    }
-    let refused = format!(in alloc; "{CREATED}{NOT_BUILT}")?;
-    let query = query_of(alloc, "2 SUCH THAT SUM(P.v) <= 14", ";")?;
-    for statement in [
-        "CREATE TABLE S (v INT);",
-        "CREATE TABLE T (v TEXT);",
-        query.as_str(),
-    ] {
-        assert_answered(&rt, alloc, statement, NOT_BUILT)?;
-    }
-    for statement in [
-        "CREATE TABLE T (v INT);",
-        "INSERT INTO T VALUES (1000000000001);",
-        "INSERT INTO T VALUES (5),(1.5);",
-        "INSERT INTO T VALUES (5, 5);",
-        "INSERT INTO S VALUES (5);",
-        query.as_str(),
-    ] {
-        let text = format!(in alloc; "CREATE TABLE T (v INT);{statement}")?;
-        assert_answered(&rt, alloc, &text, &refused)?;
     }
     Ok(())
 }

@@ -2,7 +2,7 @@
 use Rattle.std.proofs.Common.{Err, subst}
 use Rattle.paql_parser.specs.Answers.{Answers}
 use Rattle.paql_parser.specs.declared.fault.ParseFault.{ParseFault}
-use Rattle.session_server.specs.Transcript.{lex, syntax, deep}
+use Rattle.paql_engine.specs.Texts.{lex, syntax, deep}
 use Rattle.session_server.proofs.reading.read_text.Goals as goal
 
 pub returns-in-Err-Lex : goal.returns-in-Err-Lex

@@ -1,13 +1,11 @@
-use Rattle.std.proofs.Common.{◌≤◌}
-use Rattle.session_server.proofs.Running.{IsRunning, work}
+use Rattle.pq_base.specs.Shown.{shown}
+use Rattle.paql_engine.specs.Conversation.{turns_left}
+use Rattle.session_server.specs.Driving.{IsRunning}
 use Rattle.session_server.proofs.serve.serve_session.Given as goal
 
-abbrev pub invariant-loop-bytes : goal.invariant-loop-bytes
-invariant-loop-bytes g l = record {
-  running : IsRunning (g.S.Source.left l.fn.source) (g.S.Source.left l.source) (g.K.Sink.written l.fn.sink) (g.K.Sink.written l.sink) l.conversation l.taken;
-  read : g.S.Source.faults l.fn.source ≤ g.S.Source.faults l.source;
-  write : g.K.Sink.faults l.fn.sink ≤ g.K.Sink.faults l.sink;
-}
+abbrev pub invariant-loop-machine : goal.invariant-loop-machine
+invariant-loop-machine g l = IsRunning (shown g.S.Source.left g.S.Source.faults l.fn.source) (shown g.S.Source.left g.S.Source.faults l.source)
+    (shown g.K.Sink.written g.K.Sink.faults l.fn.sink) (shown g.K.Sink.written g.K.Sink.faults l.sink) l.machine
 
-abbrev pub decreases-loop-bytes : goal.decreases-loop-bytes
-decreases-loop-bytes g l = work l.taken l.conversation
+abbrev pub decreases-loop-machine : goal.decreases-loop-machine
+decreases-loop-machine g l = turns_left l.machine.talk

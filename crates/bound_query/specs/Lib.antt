@@ -1,0 +1,4 @@
+pub mod Rows
+pub mod Terms
+pub mod Fits
+pub mod Asks

@@ -1,0 +1,12 @@
+pub mod Candidates
+pub mod PointLemmas
+pub mod Dots
+pub mod Sides
+pub mod Translated
+pub mod Counts
+pub mod TermSums
+pub mod AddSteps
+pub mod RowSteps
+pub mod Legal
+pub mod FormSteps
+pub mod Merging

@@ -1,0 +1,10 @@
+pub mod FaultLemmas
+pub mod ConditionLemmas
+pub mod NumberLemmas
+pub mod QueryLemmas
+pub mod SoundConditions
+pub mod SoundSums
+pub mod SoundQueries
+pub mod SoundRows
+pub mod RowBoundLemmas
+pub mod Reasons

@@ -1,0 +1,10 @@
+pub mod Faults
+pub mod Names
+pub mod Scopes
+pub mod Conditions
+pub mod Sums
+pub mod Constraints
+pub mod RowBounds
+pub mod Queries
+pub mod Sound
+pub mod Laws

@@ -1,5 +1,0 @@
-use Rattle.paql_canonical.proofs.ReadBack.{canonical_text_is_read}
-use Rattle.paql_canonical.proofs.laws.canonical_is_read.Goals as goal
-
-pub returns : goal.returns
-returns c = canonical_text_is_read

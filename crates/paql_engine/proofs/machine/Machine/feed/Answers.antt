@@ -1,0 +1,15 @@
+use Rattle.std.proofs.Common.{sym}
+use Rattle.paql_engine.proofs.Serving.{feeds, turns_fed, told_fed}
+use Rattle.paql_engine.proofs.machine.Machine.feed.Goals as goal
+
+pub returns-clause-feeds : goal.returns-clause-feeds
+returns-clause-feeds c = λ bytes written serving.
+    rw c.stage_after.ensures (feeds bytes written c.args.piece.now _ c.feed.new.self c.feed.result (rw (sym c.self.view_is) at c.requires.wished) (rw (sym c.self.view_is) at c.requires.room)
+    c.feed.ensures.ok (rw (sym c.self.view_is) at serving))
+
+pub returns-clause-told : goal.returns-clause-told
+returns-clause-told c = rw c.stage_after.ensures (told_fed c.feed.result)
+
+pub returns-clause-turns : goal.returns-clause-turns
+returns-clause-turns c =
+    rw c.stage_after.ensures (turns_fed c.args.piece.now _ c.args.self.now c.feed.new.self c.feed.result c.self.view_is c.requires.wished c.requires.room c.requires.some c.feed.ensures.ok)

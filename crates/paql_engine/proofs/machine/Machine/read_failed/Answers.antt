@@ -1,0 +1,7 @@
+use Rattle.std.proofs.Common.{sym}
+use Rattle.paql_engine.proofs.Serving.{read_fails}
+use Rattle.paql_engine.proofs.machine.Machine.read_failed.Goals as goal
+
+pub returns-clause-continues : goal.returns-clause-continues
+returns-clause-continues c = λ bytes written serving.
+    read_fails bytes written _ (rw (sym c.self.view_is) at c.requires) (rw (sym c.self.view_is) at serving)

@@ -1,5 +1,0 @@
-//! The parser of PaQL's package queries.
-#![tactic(auto)]
-
-mod aggregates;
-pub mod query;

@@ -1,0 +1,21 @@
+-- Private: `src/answering.rt`: the reply to what a search left open.
+-- The reply to what a search left open.
+use Rattle.std.specs.Prelude.{ℕ, List, ℤ, Option, None, Some}
+use Rattle.bound_query.specs.declared.queries.BoundQuery.{BoundQuery}
+use Rattle.lin_bound.specs.Problem.{ProblemData, IsWithin}
+use Rattle.package_program.specs.Points.{package_at}
+use Rattle.search_core.specs.Search.{Found}
+use Rattle.session_proto.specs.Answers as answers
+use Rattle.session_proto.specs.Replies.{ReplyData}
+use Rattle.query_answer.specs.Answers.{shown, shown_pair}
+
+-- the point that was found, if one was, is within the uppers
+abbrev pub IsCounted : ProblemData → Option Found → Type 0
+IsCounted p None = Unit {0}
+IsCounted p (Some found) = IsWithin p found.1
+
+-- the package shown is that of the point
+abbrev pub shows : BoundQuery → List ℕ → ℤ → Option Found → ℕ → ReplyData
+shows query ids bound None version = answers.undecided (shown query.goal bound) query.budget version
+shows query ids bound (Some found) version = answers.undecided_best
+    (shown_pair query.goal bound found.0) query.budget (package_at ids found.1) version

@@ -1,0 +1,6 @@
+pub mod Columns
+pub mod Named
+pub mod Units
+pub mod Cells
+pub mod Rows
+pub mod Laws

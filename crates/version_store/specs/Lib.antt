@@ -1,0 +1,9 @@
+pub mod States
+pub mod Faults
+pub mod Changes
+pub mod Histories
+pub mod Built
+pub mod Answers
+pub mod Stored
+pub mod Laws
+pub mod Worked

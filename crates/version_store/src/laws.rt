@@ -1,0 +1,23 @@
+//! Laws of histories, for those who read the definitions.
+ghost use Rattle.version_store.specs.Laws.{LongerHistories, BuiltHistories, FoundTables};
+ghost use Rattle.version_store.specs.Worked.{AreWorked};
+
+/// Small histories are what they were worked out to be by hand.
+pub fn worked_histories()
+    ensures { AreWorked }
+{}
+
+/// One more commit makes one more version, after those that are there.
+pub fn longer_histories()
+    ensures { LongerHistories }
+{}
+
+/// What CREATE and INSERT alone leave are tables, with no more entries than are kept.
+pub fn built_histories()
+    ensures { BuiltHistories }
+{}
+
+/// The columns and the rows that a name has are those of one table, and fit one another.
+pub fn found_tables()
+    ensures { FoundTables }
+{}
