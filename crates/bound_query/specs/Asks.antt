@@ -1,4 +1,3 @@
--- Private: binding, judging and translation, which stand on it.
 -- What a bound query asks for: a package query over rows of cells. And of which rows it is asked.
 use Rattle.std.specs.Prelude.{ℕ, List, map, length, ◌≤◌, IsTrue}
 use Rattle.std.specs.List.{AllByRecursion}

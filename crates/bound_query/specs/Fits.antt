@@ -1,4 +1,3 @@
--- Private: binding, judging and translation, which stand on it.
 -- Which rows the parts of a bound query fit, and how large its numbers are.
 use Rattle.std.specs.Prelude.{◌≡◌, ℕ, zero, suc, ◌+◌, ◌*ℤ◌, ◌^◌, ◌<◌, ◌≤◌, Bool, true, false, not, ◌&&◌, ◌||◌, IsTrue, if◌then◌else◌, List, [], ◌∷◌, map, length, ℤ, pos, Option, None, Some, IfSome, Contains, ◌⊎◌}
 use Rattle.std.specs.Bool.{nat_le}
@@ -164,8 +163,8 @@ rows_of (conjunct ∷ conjuncts) = rows_for conjunct.op + rows_of conjuncts
 
 -- ---- how often a row can occur
 
--- the count of all copies, times a factor: a power of ten where the sum has a scale, and below 0
--- where the count is compared from the right
+-- the count of all copies, times a factor: a power of ten if the sum has a scale, and below 0
+-- if the count is compared from the right
 abbrev pub count_times : ℤ → BoundTerm
 count_times factor = record { factor = factor; agg = Count preds.All; minus = pos 0 }
 

@@ -1,4 +1,3 @@
--- Private: `eval` in `src/truth.rt`, and binding, judging and translation above it.
 -- Which rows meet a condition.
 use Rattle.std.specs.Prelude.{ℕ, ◌^◌, Bool, true, false, not, ◌&&◌, ◌||◌, List, [], ◌∷◌, ℤ, pos, ◌*ℤ◌, slice_index_or}
 use Rattle.std.specs.Ordering.{int_cmp, nat_cmp}

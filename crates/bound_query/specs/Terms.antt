@@ -1,4 +1,3 @@
--- Private: binding, judging and translation, which stand on it.
 -- What the terms of a bound query add up, and what its sums are compared with.
 use Rattle.std.specs.Prelude.{ℕ, List, map, ℤ, pos, ◌-ℤ◌, ◌*ℤ◌, Option, None, Some, if◌then◌else◌}
 use Rattle.package_query.specs.Query.{Conjunct, Goal}

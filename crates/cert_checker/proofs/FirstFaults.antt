@@ -134,7 +134,7 @@ finds_on p best place places (Split var at mult) nodes Valid right finds = (righ
 finds_on p best place places Open nodes Valid right finds = absurd right
 finds_on p best place places node nodes (Invalid path reason) right finds = inr (right, finds)
 
--- what stands while the check is at some places
+-- what holds while the check is at some places
 pub record IsChecking (p : ProblemData) (best : Option ℤ) (nodes : List TreeNode) (places : List Place) (rest : List TreeNode) : Type 0 where
   pub regions : AllRegions p (boxes places)
   pub whole : IsWhole (length places) rest

@@ -129,7 +129,7 @@ into_upper var at cuts new_cuts box new_box box_is cuts_is splits all =
     subst (λ (some : Region). (places ≡ place_of made some ∷ others_of made some) × AllUndo made some) (sym box_is) holds in
     subst (λ (some : List Cut). (places ≡ place_of some new_box ∷ others_of some new_box) × AllUndo some new_box) (sym rev) at_box
 
--- what stands while the walk mends the box
+-- what holds while the walk mends the box
 pub record IsMending (places : List Place) (cuts : List Cut) (box : Region) : Type 0 where
   pub places_are : places ≡ others cuts box
   pub undoes : Undoes cuts box

@@ -175,7 +175,7 @@ divided number low high less (suc times, from, to) = (times, from, to)
 pub undivided : (number low high : ℕ) → Reaches number (low / 10) (high / 10) → Reaches number low high
 undivided number low high (times, from, to) = (suc times, from, to)
 
--- what stands while the ends are divided
+-- what holds while the ends are divided
 pub record IsReaching (number low high low_was high_was : ℕ) : Type 0 where
   pub onward : Reaches number low high → Reaches number low_was high_was
   pub back : Reaches number low_was high_was → Reaches number low high

@@ -244,7 +244,7 @@ next_fits r rs n text rest numbers Bad some within high is fits = each
         left [] after in_ns same = cc
         left (k ∷ ns) after in_ns same = fits (k ∷ ns) after in_ns (let tails : listed (k ∷ ns) ≡ rest ++ after = cc in tails)
 
--- what stands at a place of a line
+-- what is at a place of a line
 pub record IsFitting (rs : List Range) (text old : List ℕ) (place : ℕ) (rest now : List ℕ) : Type 0 where
   pub some : 0 < length (drop place rs)
   pub onward : (new : List ℕ) (fit : Fit) → AddsFit (drop place rs) rest now new fit → AddsFit rs text old new fit

@@ -100,7 +100,7 @@ leads_push from to [] kind numbers leads follows =
     subst (λ (some : Expect). Follows some kind numbers × (after some kind numbers ≡ after to kind numbers)) (sym leads) (follows, refl)
 leads_push from to (one ∷ rows) kind numbers leads follows = (leads.0, leads_push (after from one.kind one.numbers) to rows kind numbers leads.1 follows)
 
--- what stands after some lines
+-- what comes after some lines
 pub record IsReading (text : List ℕ) (expect : Expect) (cert : CertText) (end count : ℕ) : Type 0 where
   pub stage : IsStage expect cert
   pub leads : Leads AtHeader (rows_until expect cert) expect

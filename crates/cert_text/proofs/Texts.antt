@@ -28,7 +28,7 @@ put_on old now new numbers i within now_is new_is =
     ∙ (append_assoc old (blanked (take i numbers)) more
     ∙ ap (λ (bytes : List ℕ). old ++ bytes) (sym (blanked_more numbers i within))))
 
--- what stands while numbers are put after a first one
+-- what holds while numbers are put after a first one
 pub put_more : (old now new : List ℕ) (first : ℕ) (numbers : List ℕ) (i : ℕ) → i < length numbers
     → now ≡ old ++ (decimal first ++ blanked (take i numbers)) → new ≡ now ++ (32 ∷ decimal (get_or numbers i 0))
     → new ≡ old ++ (decimal first ++ blanked (take (i + 1) numbers))

@@ -128,7 +128,7 @@ none_remains [] fits = refl
 none_remains (piece ∷ pieces) fits =
     absurd (omega (arith, none_short (piece ∷ pieces) fits (length (path_of piece)), sum_by-cons (weight_at (shortness (length (path_of piece)))) piece pieces))
 
--- what stands while a tree is laid: what remains fits the paths to come, and with their trees the nodes are a tree of all pieces
+-- what holds while a tree is laid: what remains fits the paths to come, and with their trees the nodes are a tree of all pieces
 pub record IsLaying (start : List Piece) (pending : List (List Branch)) (nodes : List TreeNode) (pieces : List Piece) : Type 0 where
   pub fits : Fits (reverse pending) pieces
   pub completes : (more : List TreeNode) (rest : List Piece) → IsPermutation pieces rest → Laid (reverse pending) more rest → IsLaid start (nodes ++ more)

@@ -25,7 +25,7 @@ abbrev pub ArePlaces : ProblemData → List TreeNode → List Place → Type 0
 ArePlaces p nodes [] = Unit {0}
 ArePlaces p nodes (place ∷ places) = IsPath p place.path × IsNumber nodes place.parent × ArePlaces p nodes places
 
--- what stands during the walk, the places read from the next one on
+-- what holds during the walk, the places read from the next one on
 pub record IsNext (p : ProblemData) (best : Option ℤ) (nodes : List TreeNode) (places : List Place) (most : ℤ) (rest : List TreeNode) : Type 0 where
   pub greatest : greatest_top p most (boxes_with p nodes places) rest ≡ most_left p nodes best
   pub parts : PartlyCertify p best (boxes_of (boxes_with p nodes places)) rest

@@ -70,7 +70,7 @@ abbrev pub halves_with : ℕ → ℕ → Mult → Region → List (Region × Opt
 halves_with var at mult box =
     (half (lower var at) box, Some mult) ∷ ((half (upper var at) box, Some mult) ∷ [])
 
--- the greatest of a value and the tops of the open leaves; each box stands with its parent's
+-- the greatest of a value and the tops of the open leaves; each box comes with its parent's
 -- multipliers
 abbrev pub greatest_top : ProblemData → ℤ → List (Region × Option Mult) → List TreeNode → ℤ
 greatest_top p most [] nodes = most
@@ -81,7 +81,7 @@ greatest_top p most (place ∷ places) (Split var at mult ∷ nodes) =
 greatest_top p most (place ∷ places) (Open ∷ nodes) =
     greatest_top p (int_max most (top p place.0 place.1)) places nodes
 
--- the tops of the open leaves, in preorder; each box stands with its parent's multipliers
+-- the tops of the open leaves, in preorder; each box comes with its parent's multipliers
 abbrev pub tops_of : ProblemData → List (Region × Option Mult) → List TreeNode → List ℤ
 tops_of p [] nodes = []
 tops_of p (place ∷ places) [] = []

@@ -11,7 +11,7 @@ use Rattle.cert_tree.specs.declared.records.Piece.{Piece}
 use Rattle.cert_tree.specs.declared.records.Piece.TheVariants.{Done, Left}
 use Rattle.cert_tree.specs.Records.{children_of}
 
--- where a piece stands, its node, and the paths that it leaves to do
+-- where a piece is, its node, and the paths that it leaves to do
 abbrev pub path_of : Piece → List Branch
 path_of (Done done) = done.path
 path_of (Left path) = path
@@ -28,7 +28,7 @@ abbrev pub children_in : Piece → List (List Branch)
 children_in (Done done) = children_of done.path done.act
 children_in (Left path) = []
 
--- a piece stands at the path
+-- a piece is at the path
 abbrev pub IsAt : List Branch → Piece → Type 0
 IsAt path piece = path_of piece ≡ path
 

@@ -20,7 +20,7 @@ path_in done = done.path
 abbrev pub children : Record → List (List Branch)
 children done = children_of done.path done.act
 
--- Each path stands among the records and the left paths as often as a split record has it as a
+-- Each path is among the records and the left paths as often as a split record has it as a
 -- child, and the pending ones once more.
 abbrev pub BalancedFrom : List (List Branch) → List Record → List (List Branch) → Type 0
 BalancedFrom pending records left =

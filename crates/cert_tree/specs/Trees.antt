@@ -20,7 +20,7 @@ IsWhole (suc trees) (Split var at mult ∷ nodes) = IsWhole (suc (suc trees)) no
 IsWhole (suc trees) (Open ∷ nodes) = IsWhole trees nodes
 
 -- The nodes are the trees of the paths, one after another, and each node is made of the next piece,
--- which stands at the node's path: a leaf of a closed record, a split of a split record, and an
+-- which is at the node's path: a leaf of a closed record, a split of a split record, and an
 -- open leaf of a left path.
 abbrev pub Laid : List (List Branch) → List TreeNode → List Piece → Type 0
 Laid [] [] [] = Unit {0}

@@ -12,7 +12,7 @@ use sqlite_items::Items;
 use std::alloc::{AllocError, Global};
 use std::cmp::Ordering;
 
-/// Where the first path stands in preorder against the second: a path before those below it, and lower halves before
+/// Where the first path is in preorder against the second: a path before those below it, and lower halves before
 /// upper ones.
 fn preorder(one: &Path, other: &Path) -> Ordering {
     for place in 0..one.len().min(other.len()) {
@@ -24,7 +24,7 @@ fn preorder(one: &Path, other: &Path) -> Ordering {
     one.len().cmp(&other.len())
 }
 
-/// Where a piece stands.
+/// Where a piece is.
 fn path_of(piece: &Piece) -> &Path
     ensures { result.now ≡ path_of piece.now }
 {
@@ -83,7 +83,7 @@ fn gather(alloc: Global, records: Vec<Record>, left: Vec<Path>) -> Result<Vec<Pi
         .collect(alloc)
 }
 
-/// The tree of the pieces. Each path that is still to come has its piece among them; where they stand in preorder with
+/// The tree of the pieces. Each path that is still to come has its piece among them; where they are in preorder with
 /// the first last, it is the last one.
 fn lay(alloc: Global, mut pieces: Vec<Piece>) -> Result<Tree, AllocError>
     requires { Fits ([] ∷ []) pieces.items }

@@ -14,7 +14,7 @@ module _ {T A : Type 0} (opens : T → Bool) (p q : Langs T A) (ext : T → Bool
   abbrev choice : Langs T A
   choice m = p m or q m
 
-  -- At s the first part alone can stand.
+  -- At s the first part alone can be there.
   pub exact_left : (s : List T) → ((m : ℕ) (w : List T) (a : A) (k : List T) → q m w a → sees ext k ≡ false → peek (w ++ k) ≡ peek s → ⊥) → (out : Outcome T A) → Exact opens p ext n s out → Exact opens choice ext n s out
   exact_left s not_right out exact = exact_part opens p choice ext ext n (λ t h. h) (λ m w a t. inl t) s from out exact
     where
@@ -22,7 +22,7 @@ module _ {T A : Type 0} (opens : T → Bool) (p q : Langs T A) (ext : T → Bool
       from m w a k (inl t) apart same = t
       from m w a k (inr t) apart same = absurd (not_right m w a k t apart same)
 
-  -- At s the second part alone can stand.
+  -- At s the second part alone can be there.
   pub exact_right : (s : List T) → ((m : ℕ) (w : List T) (a : A) (k : List T) → p m w a → sees ext k ≡ false → peek (w ++ k) ≡ peek s → ⊥) → (out : Outcome T A) → Exact opens q ext n s out → Exact opens choice ext n s out
   exact_right s not_left out exact = exact_part opens q choice ext ext n (λ t h. h) (λ m w a t. inr t) s from out exact
     where
@@ -45,7 +45,7 @@ module _ {T A : Type 0} (opens : T → Bool) (p q : Langs T A) (ext : T → Bool
     chosen s true x y sees-is left right = exact_left s (λ m w a k t apart same. both_ways (sees-peek f (w ++ k) s same ∙ sees-is) (joins.clear m w a k t apart)) x (left refl)
     chosen s false x y sees-is left right = exact_right s (λ m w a k t apart same. both_ways (starts-sees w k (starts.first m w a t)) (sees-peek f (w ++ k) s same ∙ sees-is)) y (right refl)
 
--- The first part begins with a token of f, and where the second one stands there is none.
+-- The first part begins with a token of f, and where the second one is there is none.
 pub rule_when : {T A : Type 0} {opens : T → Bool} {p q : Langs T A} {P Q : Parser T A} {ext : T → Bool} {n : ℕ} (f : T → Bool) → Starts f p → Joins f q ext → IsRule opens p P ext n → IsRule opens q Q ext n → IsRule opens (λ m. p m or q m) (when f P Q) ext n
 rule_when {opens = opens} {p = p} {q = q} {P = P} {Q = Q} {ext = ext} {n = n} f starts joins x y = record {
   grows = grows_choice opens p q ext n x.grows y.grows;

@@ -1,11 +1,11 @@
--- What stands first in a list of tokens, and what a refusal says in another language.
+-- What comes first in a list of tokens, and what a refusal says in another language.
 use Rattle.std.proofs.Common.{◌≡◌, ℕ, Bool, true, false, List, [], ◌∷◌, ◌++◌, Option, Some, None, refl, sym, ap, ◌∙◌}
 use Rattle.formal_grammar.specs.declared.stop.Why.{Why}
 use Rattle.formal_grammar.specs.declared.stop.Why.TheVariants.{Syntax, Deep}
 use Rattle.formal_grammar.specs.Parse.{peek, sees}
 use Rattle.formal_grammar.specs.Exact.{Langs, none, Within, StartsIn, Never, Deeper, IsBad}
 
--- Behind the same tokens the same token, or the end, stands first.
+-- After the same tokens the same token, or the end, comes first.
 pub peek-append : {T : Type 0} (front a b : List T) → peek a ≡ peek b → peek (front ++ a) ≡ peek (front ++ b)
 peek-append [] a b same = same
 peek-append (t ∷ front) a b same = refl
@@ -35,11 +35,11 @@ pub sees-within : {T : Type 0} {small large : T → Bool} → Within small large
 sees-within within [] apart = refl
 sees-within within (t ∷ s) apart = within t apart
 
--- Tokens that begin with one of f begin so whatever stands behind them.
+-- Tokens that begin with one of f begin so whatever comes after them.
 pub starts-sees : {T : Type 0} {f : T → Bool} (w k : List T) → StartsIn f w → sees f (w ++ k) ≡ true
 starts-sees {f = f} w k x = ap (λ z. sees f (z ++ k)) x.cons ∙ x.passes
 
--- The first token of a text is the first of what it stands in front of.
+-- The first token of a text is the first of what it comes before.
 pub peek_first : {T : Type 0} {t : T} {tail : List T} (w k x : List T) → w ≡ t ∷ tail → w ++ k ≡ x → peek x ≡ Some t
 peek_first w k x w-is e = sym (ap peek e) ∙ ap (λ z. peek (z ++ k)) w-is
 

@@ -29,7 +29,7 @@ among_many more w (a ∷ later) t = (t.0, t.1, more t.0 a t.2, among_many more t
 pub among_listed : {T A : Type 0} (separator : Lang T (Unit {0})) {p p' : Lang T A} → Among p p' → Among (listed separator p) (listed separator p')
 among_listed separator {p = p} {p' = p'} more = among_then more (λ a. among_then (among_many (among_then {p = separator} {q = λ _. p} {q' = λ _. p'} (λ w u t. t) (λ _. more))) (λ later w b t. t))
 
--- A token that is a text begins what stands behind it, if there is such a text.
+-- A token that is a text begins what comes after it, if there is such a text.
 pub begins_behind : {T A B : Type 0} (first : Lang T B) (t : T) (b : B) {L : Langs T A} {m : ℕ} → first (t ∷ []) b → Has L m → Begins (λ k. first >> L k) m (t ∷ [])
 begins_behind first t b one h = record {
   more = h.text;

@@ -1,4 +1,4 @@
--- What stands first where a text stands: the conditions at each join of two parts.
+-- What comes first where a text is: the conditions at each join of two parts.
 use Rattle.std.proofs.Common.{◌≡◌, ℕ, zero, suc, Bool, true, false, List, [], ◌∷◌, ◌++◌, Option, Some, None, ◌⊎◌, inl, inr, refl, ap, ◌∙◌, append_assoc}
 use Rattle.formal_grammar.specs.Lang.{Lang, ◌>>=◌, ◌or◌, gives, shown, token, the, one_of, optional, many, listed}
 use Rattle.formal_grammar.specs.Parse.{sees}
@@ -7,7 +7,7 @@ use Rattle.formal_grammar.proofs.Contexts.{sees-none, sees-within, both_ways}
 
 -- ---- with which tokens texts begin
 
--- What begins with a front begins as the front does.
+-- What begins with a prefix begins as the prefix does.
 pub starts_first : {T : Type 0} {f : T → Bool} (w front back : List T) → w ≡ front ++ back → StartsIn f front → StartsIn f w
 starts_first w front back whole x = record { head = x.head; tail = x.tail ++ back; cons = whole ∙ ap (λ z. z ++ back) x.cons; passes = x.passes }
 
@@ -68,13 +68,13 @@ starts_nested {T = T} {A = A} {f = f} {L = L} starts = record { first = first }
     first zero w a t = absurd t
     first (suc m) w a t = starts.first m w a t
 
--- ---- what doesn't stand first
+-- ---- what doesn't come first
 
 -- No token is in the empty set.
 pub joins_none : {T A : Type 0} {L : Langs T A} {ext : T → Bool} → Joins none L ext
 joins_none = record { clear = λ m w a k t apart. sees-none (w ++ k) }
 
--- Behind the empty text stands what follows.
+-- After the empty text comes what follows.
 pub joins_gives : {T A : Type 0} (before : T → Bool) (a : A) (ext : T → Bool) → Within before ext → Joins before (λ m. gives a) ext
 joins_gives before a ext within = record { clear = λ m w b k t apart. ap (λ z. sees before (z ++ k)) t.0 ∙ sees-within within k apart }
 
@@ -105,7 +105,7 @@ joins_or {T = T} {A = A} {before = before} {ext = ext} {p = p} {q = q} x y = rec
     clear m w a k (inl t) apart = x.clear m w a k t apart
     clear m w a k (inr t) apart = y.clear m w a k t apart
 
--- An optional part that begins apart from the set, or what stands behind it.
+-- An optional part that begins apart from the set, or what comes after it.
 pub joins_skip : {T A B : Type 0} {f before ext : T → Bool} {p : Langs T A} {q : Option A → Langs T B} → Apart f before → Starts f p → ((o : Option A) → Joins before (q o) ext) → Joins before (λ m. optional (p m) >>= λ o. q o m) ext
 joins_skip {before = before} apart starts behind = joins_then {between = before} (joins_or (joins_starts apart (starts_then starts)) (joins_gives before None before (λ t h. h))) behind
 
@@ -119,7 +119,7 @@ joins_many {T = T} {A = A} {f = f} {before = before} {ext = ext} {p = p} apart s
         let x = starts_first w t.0 t.1 t.4 (starts.first m t.0 a t.2) in
         ap (λ z. sees before (z ++ k)) x.cons ∙ apart x.head x.passes
 
--- Nested texts stand where all do.
+-- Nested texts are where all are.
 pub joins_nested : {T A : Type 0} {before ext : T → Bool} {L : Langs T A} → Joins before L ext → Joins before (nested L) ext
 joins_nested {T = T} {A = A} {before = before} {ext = ext} {L = L} x = record { clear = clear }
   where

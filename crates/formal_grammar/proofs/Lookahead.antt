@@ -7,7 +7,7 @@ use Rattle.formal_grammar.specs.Exact.{Langs, Never, Begins, Took, Deeper, Stopp
 use Rattle.formal_grammar.proofs.Contexts.{peek-append, sees-peek, starts-sees, both_ways, bad_as, never_at}
 use Rattle.formal_grammar.proofs.Choice.{exact_right, grows_choice, has_right}
 
--- the first two tokens, where the text that stands in front isn't empty
+-- the first two tokens, where the text that comes before it isn't empty
 same_two : {T : Type 0} (text rest other s x : List T) → s ≡ text ++ rest → (text ≡ [] → ⊥) → x ≡ text ++ other → peek other ≡ peek rest → (peek x ≡ peek s) × (peek (rest_of x) ≡ peek (rest_of s))
 same_two [] rest other s x whole some e same = absurd (some refl)
 same_two (t ∷ text) rest other s x whole some e same =
@@ -96,17 +96,17 @@ rule_two {opens = opens} {p = p} {q = q} {P = P} {Q = Q} {ext = ext} {n = n} g h
   exact = λ s. two_chosen opens p q ext g h n starts_p starts_q second_p second_q heads_p heads_q s (sees g s) (P s) (Q s) refl (x.exact s) (y.exact s);
 }
 
--- the tokens behind one token
+-- the tokens after one token
 behind_one : {T B : Type 0} {first : Lang T B} → ((w : List T) (b : B) → first w b → (t : T) × (w ≡ t ∷ [])) → (w front back k : List T) (b : B) → first front b → w ≡ front ++ back → rest_of (w ++ k) ≡ back ++ k
 behind_one single w front back k b one whole = ap (λ z. rest_of (z ++ k)) (whole ∙ ap (λ z. z ++ back) (single front b one).1)
 
--- Behind one token stands what begins with a token that passes.
+-- After one token comes what begins with a token that passes.
 pub seconds_starts : {T A B : Type 0} {h ext : T → Bool} {first : Lang T B} {q : Langs T A} → ((w : List T) (b : B) → first w b → (t : T) × (w ≡ t ∷ [])) → Starts h q → Seconds h true (λ m. first >> q m) ext
 seconds_starts {h = h} single starts = record {
   second = λ m w a k x _. ap (sees h) (behind_one single w x.front x.back k x.value x.first x.whole) ∙ starts-sees x.back k (starts.first m x.back a x.second);
 }
 
--- Behind one token stands what doesn't begin so, with what follows.
+-- After one token comes what doesn't begin so, with what follows.
 pub seconds_joins : {T A B : Type 0} {h ext : T → Bool} {first : Lang T B} {q : Langs T A} → ((w : List T) (b : B) → first w b → (t : T) × (w ≡ t ∷ [])) → Joins h q ext → Seconds h false (λ m. first >> q m) ext
 seconds_joins {h = h} single joins = record {
   second = λ m w a k x apart. ap (sees h) (behind_one single w x.front x.back k x.value x.first x.whole) ∙ joins.clear m x.back a k x.second apart;

@@ -9,7 +9,7 @@ use Rattle.formal_grammar.specs.Exact.{Langs, Exact, IsRule, Starts}
 use Rattle.formal_grammar.proofs.Contexts.{both_ways}
 use Rattle.formal_grammar.proofs.Repeats.{took_less}
 
--- What is left behind a value is less than stood there.
+-- What is left after a value is less than was there.
 pub record Shrinks {T A : Type 0} (P : Parser T A) : Type 0 where
   pub less : (s : List T) (a : A) (u : List T) → P s ≡ Ok (a, u) → length u < length s
 
@@ -17,7 +17,7 @@ pub record Shrinks {T A : Type 0} (P : Parser T A) : Type 0 where
 pub shrinks : {T A : Type 0} {opens : T → Bool} {L : Langs T A} {P : Parser T A} {f ext : T → Bool} {n : ℕ} → Starts f L → IsRule opens L P ext n → Shrinks P
 shrinks {opens = opens} {L = L} {ext = ext} {n = n} starts x = record { less = λ s a u e. took_less starts (subst (λ o. Exact opens L ext n s o) e (x.exact s)) }
 
--- two ways to go on that agree behind each value agree
+-- two ways to go on that agree after each value agree
 same_turns : {T A : Type 0} (b : Bool) (s : List T) (o : Outcome T A) (F G : A → Parser T (List A)) → ((a : A) (u : List T) → o ≡ Ok (a, u) → F a u ≡ G a u) → (if b then and_then o F else Ok ([], s)) ≡ (if b then and_then o G else Ok ([], s))
 same_turns true s (Ok x) F G same = same x.0 x.1 refl
 same_turns true s (Err e) F G same = refl
@@ -37,7 +37,7 @@ module _ {T A : Type 0} (f : T → Bool) (P : Parser T A) (less : Shrinks P) whe
       let lt : length u < length s = less.less s a u e in
       ap (λ o. and_then o (λ later. pure (a ∷ later))) (turns_enough j k u (omega arith) (omega arith)))
 
-  -- a part that stands there is the first of the repetition
+  -- a part that is there is the first of the repetition
   repeat_one : (s : List T) (a : A) (u : List T) → sees f s ≡ true → P s ≡ Ok (a, u) → repeat f P s ≡ and_then (repeat f P u) (λ later. pure (a ∷ later))
   repeat_one [] a u sees-is e = absurd (both_ways sees-is refl)
   repeat_one (t ∷ s) a u sees-is e =
@@ -77,11 +77,11 @@ ends_by add f P (errors.Stopped why left) v s total sees-is fails so_far = sym s
 pub is_done_by : {T A B : Type 0} (add : B → A → B) (f : T → Bool) (P : Parser T A) (v : B) (s : List T) (total : Outcome T B) → sees f s ≡ false → fold_front add v (repeat f P s) ≡ total → total ≡ Ok (v, s)
 is_done_by add f P v s total sees-is so_far = sym so_far ∙ ap (fold_front add v) (repeat_done f P s sees-is)
 
--- A list without a separator behind its first part has that part alone.
+-- A list without a separator after its first part has that part alone.
 pub one_item : {T A : Type 0} (is : T → Bool) (P : Parser T A) (s : List T) (a : A) (u : List T) → P s ≡ Ok (a, u) → sees is u ≡ false → separated is P s ≡ Ok (a ∷ [], u)
 one_item is P s a u e closed = rw e (rw (repeat_done is (accept (this is) >> P) u closed) refl)
 
--- A loop over a list begins behind the first part.
+-- A loop over a list begins after the first part.
 pub more_items : {T A B : Type 0} (add : B → A → B) (is : T → Bool) (P : Parser T A) (v : B) (s : List T) (a : A) (u : List T) → P s ≡ Ok (a, u) → fold_front add (add v a) (repeat is (accept (this is) >> P) u) ≡ fold_front add v (separated is P s)
 more_items add is P v s a u e = rw e (sym (fold_one add v a (repeat is (accept (this is) >> P) u)))
 

@@ -18,7 +18,7 @@ took_less {n = n} {s = s} {a = a} {u = u} starts x =
     omega (arith, whole, some)
 
 module _ {T A : Type 0} (p : Langs T A) where
-  -- one part, and any number behind it
+  -- one part, and any number after it
   abbrev some : Langs T (List A)
   some m = p m >>= λ a. many (p m) >>= λ later. gives (a ∷ later)
 
@@ -36,7 +36,7 @@ module _ {T A : Type 0} (p : Langs T A) where
   grows_many grows m k w (a ∷ later) le t = (t.0, t.1, grows m k t.0 a le t.2, grows_many grows m k t.1 later le t.3, t.4)
 
   module _ (opens f e1 ext : T → Bool) (n : ℕ) (starts : Starts f p) (apart : Apart f e1) (f-within : Within f ext) (e1-within : Within e1 ext) where
-    -- where a text of many stands and a token of f first, there is a first part
+    -- where a text of many is and a token of f first, there is a first part
     many_to_some : (s : List T) → sees f s ≡ true → (m : ℕ) (w : List T) (b : List A) (k : List T) → many (p m) w b → sees ext k ≡ false → peek (w ++ k) ≡ peek s → some m w b
     many_to_some s here_one m w [] k t follows same =
         let here : sees f (w ++ k) ≡ false = ap (λ z. sees f (z ++ k)) t ∙ sees-within f-within k follows in
@@ -61,16 +61,16 @@ module _ {T A : Type 0} (p : Langs T A) where
             absurd (both_ways (starts-sees w k x) (sees-peek f (w ++ k) s (ap peek e ∙ same) ∙ closed))
 
     module _ (P : Parser T A) (x : IsRule opens p P e1 n) where
-      -- the reading behind a first part
+      -- the reading after a first part
       abbrev later_parts : A → ℕ → Parser T (List A)
       later_parts a k u = and_then (turns f P k u) (λ later. pure (a ∷ later))
 
-      -- the parts behind a first one
+      -- the parts after a first one
       exact_later : (a : A) (k : ℕ) (u : List T) → Exact opens (λ m. many (p m)) ext n u (turns f P k u) → Exact opens (λ m. many (p m) >>= λ later. gives (a ∷ later)) ext n u (later_parts a k u)
       exact_later a k u exact =
           exact_then opens (λ m. many (p m)) (λ later m. gives (a ∷ later)) ext ext n (λ later. joins_gives ext (a ∷ later) ext (λ t h. h)) u (λ later. pure (a ∷ later)) (turns f P k u) (grows_many x.grows) (λ later. (rule_gives {opens = opens} (a ∷ later) ext n).has) exact (λ later v _. (rule_gives {opens = opens} (a ∷ later) ext n).exact v)
 
-      -- a first part, and those behind it
+      -- a first part, and those after it
       exact_one : (k : ℕ) (s : List T) → length s ≤ suc k → sees f s ≡ true → ((u : List T) → length u ≤ k → Exact opens (λ m. many (p m)) ext n u (turns f P k u)) → Exact opens (λ m. many (p m)) ext n s (and_then (P s) (λ a u. later_parts a k u))
       exact_one k s short here_one rest_exact =
           exact_part opens some (λ m. many (p m)) ext ext n (λ t h. h) some_to_many s (many_to_some s here_one) (and_then (P s) (λ a u. later_parts a k u))

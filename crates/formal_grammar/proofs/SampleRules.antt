@@ -73,7 +73,7 @@ sum_rule {n = n} x =
     (rule_listed (is Plus) (is Plus) (starts_the (passes Plus)) (λ t _. refl) (within_same (is Plus)) (within_none (is Plus)) (the_rule Plus n) x)
     (λ items. rule_then {q = λ marked m. gives (expr.Sum items marked)} (λ marked. joins_gives goes_on (expr.Sum items marked) goes_on (within_same goes_on)) (mark_rule n) (λ marked. rule_gives (expr.Sum items marked) goes_on n))
 
--- what stands behind an opening bracket
+-- what comes after an opening bracket
 abbrev inside : Lang Token Expr → Lang Token Expr
 inside p = p >>= λ e. the (token.Sign Close) >> gives e
 
@@ -172,7 +172,7 @@ item_rule (suc n) = rule_same item to_item from_item (rule_when (is Open) starts
 pub exact_sum : (n : ℕ) → IsRule opens (λ m. sum m) (read.sum (read.item n)) goes_on n
 exact_sum n = sum_rule (item_rule n)
 
--- An item behind a plus takes a token.
+-- An item after a plus takes a token.
 pub next_shrinks : (n : ℕ) → Shrinks (read.next_item (read.item n))
 next_shrinks n = shrinks {f = is Plus} (starts_then {q = λ _. item} (starts_the (passes Plus))) (rule_seq (the_rule Plus n) (λ _. item_rule n))
 

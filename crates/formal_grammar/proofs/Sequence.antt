@@ -121,7 +121,7 @@ module _ {T A B : Type 0} (opens : T → Bool) (p : Langs T A) (q : A → Langs 
         begins = begins_first d.depth (x.text ++ (d.head ∷ [])) (λ a. has a d.depth d.more) d.begins;
       }
 
-  -- behind a first part that was taken the second decides
+  -- after a first part that was taken the second decides
   exact_second : (s u : List T) (a : A) (out : Outcome T B) → Grows p → Took p e1 n s a u → Exact opens (q a) e2 n u out → Exact opens both e2 n s out
   exact_second s u a (Ok y) grows x exact = took_both s u y.1 a y.0 x exact
   exact_second s u a (Err e) grows x exact = stopped_second s u a e grows x exact
@@ -152,7 +152,7 @@ module _ {T A B : Type 0} (opens : T → Bool) (p : Langs T A) (q : A → Langs 
         spells = record { front = x.text; back = h.text; value = x.value; first = x.spells; second = h.spells; whole = refl };
       }
 
--- One part and then another: where the second stands, with what follows, no token stands that would go on with the first.
+-- One part and then another: where the second is, with what follows, there is no token that would go on with the first.
 pub rule_then : {T A B : Type 0} {opens : T → Bool} {p : Langs T A} {q : A → Langs T B} {P : Parser T A} {Q : A → Parser T B} {e1 e2 : T → Bool} {n : ℕ} → ((a : A) → Joins e1 (q a) e2) → IsRule opens p P e1 n → ((a : A) → IsRule opens (q a) (Q a) e2 n) → IsRule opens (λ m. p m >>= λ a. q a m) (λ s. and_then (P s) Q) e2 n
 rule_then {opens = opens} {p = p} {q = q} {P = P} {Q = Q} {e1 = e1} {e2 = e2} {n = n} joins x y = record {
   grows = grows_both opens p q e1 e2 n joins x.grows (λ a. (y a).grows);

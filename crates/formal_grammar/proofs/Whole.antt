@@ -8,7 +8,7 @@ use Rattle.formal_grammar.specs.Exact.{Langs, Never, Begins, Took, Stopped, Exac
 use Rattle.formal_grammar.specs.Fault.{Agrees, IsSyntaxFault, IsDeepFault, IsOnly, IsFault, Judges}
 use Rattle.formal_grammar.proofs.Contexts.{never_at, not_none}
 
--- Tokens that agree up to one past the text have the text in front, and then the same token, or the end.
+-- Tokens that agree up to one past the text have the text before it, and then the same token, or the end.
 record Shares {T : Type 0} (text rest w : List T) : Type 0 where
   other : List T
   whole : w ≡ text ++ other
@@ -34,7 +34,7 @@ shares (x ∷ text) rest (y ∷ w) e =
     let r = shares text rest w h.1 in
     record { other = r.other; whole = ap (λ z. z ∷ w) h.0 ∙ ap (λ z. x ∷ z) r.whole; same = r.same }
 
--- the token behind a text stands at its length
+-- the token after a text is at its length
 get_behind : {T : Type 0} (text : List T) (t : T) (tail : List T) → slice_get (text ++ t ∷ tail) (length text) ≡ Some t
 get_behind [] t tail = refl
 get_behind (x ∷ text) t tail = get_behind text t tail
@@ -72,7 +72,7 @@ module _ {T A : Type 0} (opens : T → Bool) (L : Langs T A) (ext : T → Bool) 
   begins_whole : (text : List T) (a : A) → L n text a → Begins L n text
   begins_whole text a t = record { more = []; value = a; text = subst (λ (z : List T). L n z a) (sym (append-nil text)) t }
 
-  -- no text goes on behind one that was taken
+  -- no text goes on after one that was taken
   goes_no_further : (s : List T) (a : A) (t : T) (rest : List T) (x : Took L ext n s a (t ∷ rest)) (m : ℕ) → Agrees L m (suc (length x.text)) s → ⊥
   goes_no_further s a t rest x m y =
       let h = shares x.text (t ∷ rest) y.text (y.same ∙ ap (take (suc (length x.text))) x.whole) in
@@ -80,7 +80,7 @@ module _ {T A : Type 0} (opens : T → Bool) (L : Langs T A) (ext : T → Bool) 
       let nothing : h.other ≡ [] = append_cancel_left x.text h.other [] (sym h.whole ∙ one.0 ∙ sym (append-nil x.text)) in
       not_none (sym h.same ∙ ap peek nothing)
 
-  -- what was taken with more behind it is a fault there
+  -- what was taken with more after it is a fault there
   judged_more : (s : List T) (a : A) (t : T) (rest : List T) → Took L ext n s a (t ∷ rest) → Judges opens L n s (Err (Syntax, length (t ∷ rest)))
   judged_more s a t rest x =
       let len = length_whole x.text (t ∷ rest) s x.whole in

@@ -1,6 +1,6 @@
--- A parser is exact for a language if it takes the one text that stands in front, and else stops at
+-- A parser is exact for a language if it takes the one text at the start, and else stops at
 -- the first token with which no text agrees. Contexts are ruled by `ext`, the tokens that would go
--- on with a text: what stands behind a text never begins with one of them. `opens` are the tokens
+-- on with a text: what comes after a text never begins with one of them. `opens` are the tokens
 -- that open one more level of nesting.
 use Rattle.std.specs.Prelude.{◌≡◌, ℕ, zero, suc, ◌≤◌, Bool, true, false, ◌||◌, List, [], ◌∷◌, ◌++◌}
 use Rattle.std.specs.Prelude.{length, Ok, Err}
@@ -36,7 +36,7 @@ pub record Has {T A : Type 0} (L : Langs T A) (m : ℕ) : Type 0 where
   pub value : A
   pub spells : L m text value
 
--- No text of the language, with what may follow it, agrees with p and the token that stands first
+-- No text of the language, with what may follow it, agrees with p and the token that comes first
 -- in rest, or the end.
 abbrev pub Never : {T A : Type 0} → Langs T A → (T → Bool) → ℕ → List T → List T → Type 0
 Never {T = T} {A = A} L ext m p rest =
@@ -49,7 +49,7 @@ pub record Begins {T A : Type 0} (L : Langs T A) (m : ℕ) (p : List T) : Type 0
   pub value : A
   pub text : L m (p ++ more) value
 
--- A text was taken, and no other text agrees with the tokens up to the first behind it.
+-- A text was taken, and no other text agrees with the tokens up to the first after it.
 pub record Took {T A : Type 0} (L : Langs T A) (ext : T → Bool) (n : ℕ) (s : List T) (a : A)
     (rest : List T) : Type 0 where
   pub text : List T
@@ -70,7 +70,7 @@ pub record Deeper {T A : Type 0} (opens : T → Bool) (L : Langs T A) (n : ℕ)
   pub more : n ≤ depth
   pub begins : Begins L depth (p ++ (head ∷ []))
 
--- Why the first token of rest, or the end, is refused behind p.
+-- Why the first token of rest, or the end, is refused after p.
 abbrev pub IsBad : {T A : Type 0} → Why → (T → Bool) → Langs T A → (T → Bool) → ℕ → List T → List T
     → Type 0
 IsBad Syntax opens L ext n p rest = (m : ℕ) → Never L ext m p rest
@@ -99,7 +99,7 @@ pub record IsRule {T A : Type 0} (opens : T → Bool) (L : Langs T A) (P : Parse
   pub has : (m : ℕ) → n ≤ m → Has L m
   pub exact : (s : List T) → Exact opens L ext n s (P s)
 
--- Where a text of L stands, with what may follow it, no token of before stands first.
+-- If a text of L comes, with what may follow it, no token of before comes first.
 pub record Joins {T A : Type 0} (before : T → Bool) (L : Langs T A) (ext : T → Bool) : Type 0 where
   pub clear : (m : ℕ) (w : List T) (a : A) (k : List T) → L m w a → sees ext k ≡ false
       → sees before (w ++ k) ≡ false
@@ -115,7 +115,7 @@ pub record StartsIn {T : Type 0} (f : T → Bool) (w : List T) : Type 0 where
 pub record Starts {T A : Type 0} (f : T → Bool) (L : Langs T A) : Type 0 where
   pub first : (m : ℕ) (w : List T) (a : A) → L m w a → StartsIn f w
 
--- Where a text of L stands, with what may follow it, the second token passes the test, or doesn't.
+-- If a text of L comes, with what may follow it, the second token passes the test, or doesn't.
 pub record Seconds {T A : Type 0} (h : T → Bool) (passes : Bool) (L : Langs T A)
     (ext : T → Bool) : Type 0 where
   pub second : (m : ℕ) (w : List T) (a : A) (k : List T) → L m w a → sees ext k ≡ false

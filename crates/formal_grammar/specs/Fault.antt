@@ -37,7 +37,7 @@ pub record IsOnly {T A : Type 0} (L : Langs T A) (n : ℕ) (s : List T) (a : A) 
   pub spells : L n s a
   pub only : (m : ℕ) (b : A) → L m s b → b ≡ a
 
--- The fault of this kind stands at this place.
+-- The fault of this kind is at this place.
 abbrev pub IsFault : {T A : Type 0} → Why → (T → Bool) → Langs T A → ℕ → List T → ℕ → Type 0
 IsFault Syntax opens L n s at = IsSyntaxFault L n s at
 IsFault Deep opens L n s at = IsDeepFault opens L n s at

@@ -6,7 +6,7 @@ use Rattle.std.specs.Prelude.{◌≡◌, Bool, true, List, [], ◌∷◌, ◌++�
 abbrev pub Lang : Type 0 → Type 0 → Type 1
 Lang T A = List T → A → Type 0
 
--- One text, and behind it another, whose language may depend on the value of the first.
+-- One text, and after it another, whose language may depend on the value of the first.
 pub record Then {T A B : Type 0} (p : Lang T A) (q : A → Lang T B) (w : List T)
     (b : B) : Type 0 where
   pub front : List T
@@ -20,7 +20,7 @@ infixl 10 ◌>>=◌
 abbrev pub ◌>>=◌ : {T A B : Type 0} → Lang T A → (A → Lang T B) → Lang T B
 (p >>= q) w b = Then p q w b
 
--- One text, whose value is dropped, and behind it another.
+-- One text, whose value is dropped, and after it another.
 infixl 10 ◌>>◌
 abbrev pub ◌>>◌ : {T A B : Type 0} → Lang T A → Lang T B → Lang T B
 (p >> q) w b = Then p (λ _. q) w b
@@ -54,7 +54,7 @@ abbrev pub ◌or◌ : {T A : Type 0} → Lang T A → Lang T A → Lang T A
 abbrev pub optional : {T A : Type 0} → Lang T A → Lang T (Option A)
 optional p = (p >>= λ a. gives (Some a)) or gives None
 
--- Any number of texts, one behind the other.
+-- Any number of texts, one after the other.
 abbrev pub many : {T A : Type 0} → Lang T A → Lang T (List A)
 many p w [] = w ≡ []
 many {T = T} p w (a ∷ later) = (u v : List T) × p u a × many p v later × (w ≡ u ++ v)

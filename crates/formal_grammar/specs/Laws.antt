@@ -36,8 +36,8 @@ ReadsAll T A =
     → IsRule opens (passing test) parser ext n → (s : List T) (a : A) → passing test n s a
     → all_of parser s ≡ Ok a
 
--- Two exact parsers, one behind the other, are exact for the sequence, if wherever a text of the
--- second stands, with what may follow it, no token stands first that would go on with the first.
+-- Two exact parsers, one after the other, are exact for the sequence, if wherever a text of the
+-- second comes, with what may follow it, no token comes first that would go on with the first.
 abbrev pub Composes : Type 0 → Type 0 → Type 0 → Type 0
 Composes T A B =
     (first : Test T A) (second : A → Test T B) (parser : Parser T A) (parsers : A → Parser T B)

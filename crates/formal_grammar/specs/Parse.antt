@@ -7,14 +7,14 @@ use Rattle.formal_grammar.specs.declared.stop.Why.TheVariants.{Syntax}
 use Rattle.formal_grammar.specs.declared.stop.ReadError.{ReadError}
 use Rattle.formal_grammar.specs.declared.stop.ReadError.TheVariants as errors
 
--- The value and the tokens behind it, or why it stopped and how many tokens were left.
+-- The value and the tokens after it, or why it stopped and how many tokens were left.
 abbrev pub Outcome : Type 0 → Type 0 → Type 0
 Outcome T A = Result (A × List T) (Why × ℕ)
 
 abbrev pub Parser : Type 0 → Type 0 → Type 0
 Parser T A = List T → Outcome T A
 
--- Goes on behind a value, and passes a stop on.
+-- Goes on after a value, and passes a stop on.
 abbrev pub and_then : {T A B : Type 0} → Outcome T A → (A → Parser T B) → Outcome T B
 and_then (Ok x) q = q x.0 x.1
 and_then (Err e) q = Err e
@@ -68,23 +68,23 @@ rest_of (t ∷ rest) = rest
 abbrev pub when : {T A : Type 0} → (T → Bool) → Parser T A → Parser T A → Parser T A
 when f p q s = if sees f s then p s else q s
 
--- The second token decides, behind a first one that passes the test.
+-- The second token decides, after a first one that passes the test.
 abbrev pub when_two : {T A : Type 0} → (T → Bool) → (T → Bool) → Parser T A → Parser T A
     → Parser T A
 when_two g h p q s = if sees g s then (if sees h (rest_of s) then p s else q s) else q s
 
--- A part that stands where such a token stands first.
+-- A part, if such a token comes first.
 abbrev pub maybe : {T A : Type 0} → (T → Bool) → Parser T A → Parser T (Option A)
 maybe f p = when f (p >>= λ a. pure (Some a)) (pure None)
 
--- As many parts as stand there, and k at most.
+-- As many parts as are there, and k at most.
 abbrev pub turns : {T A : Type 0} → (T → Bool) → Parser T A → ℕ → Parser T (List A)
 turns f p zero s = Ok ([], s)
 turns f p (suc k) s =
     if sees f s then and_then (p s) (λ a u. and_then (turns f p k u) (λ later. pure (a ∷ later)))
     else Ok ([], s)
 
--- As many parts as stand there: each takes a token, so there are no more than tokens.
+-- As many parts as are there: each takes a token, so there are no more than tokens.
 abbrev pub repeat : {T A : Type 0} → (T → Bool) → Parser T A → Parser T (List A)
 repeat f p s = turns f p (length s) s
 
@@ -92,7 +92,7 @@ repeat f p s = turns f p (length s) s
 abbrev pub separated : {T A : Type 0} → (T → Bool) → Parser T A → Parser T (List A)
 separated is p = p >>= λ a. repeat is (accept (this is) >> p) >>= λ later. pure (a ∷ later)
 
--- All of the tokens: behind the value stands no other.
+-- All of the tokens: there is no other after the value.
 abbrev pub ended : {T A : Type 0} → Outcome T A → Result A (Why × ℕ)
 ended (Ok (a, [])) = Ok a
 ended (Ok (a, t ∷ rest)) = Err (Syntax, length (t ∷ rest))

@@ -1,5 +1,5 @@
 -- Private: the sample in `src/sample.rt`.
--- The reading of each function of the sample's parser, line by line as the grammar stands.
+-- The reading of each function of the sample's parser, line by line as in the grammar.
 use Rattle.std.specs.Prelude.{ℕ, zero, suc, Bool, false, is_some}
 use denote.Enum.Bare.{sameb}
 use Rattle.formal_grammar.specs.contracts.sample.Sign.{the_type}

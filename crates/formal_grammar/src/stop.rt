@@ -4,7 +4,7 @@ ghost use Rattle.formal_grammar.specs.declared.stop.ReadError.TheVariants.{Memor
 
 use std::alloc::{AllocError, AllocFailed};
 
-/// Why a token cannot stand where it stands.
+/// Why a token cannot be at its place.
 #[derive(Clone, Copy, Debug, PartialEq, Eq)]
 pub enum Why {
     /// With it, or with the end, the tokens so far begin no text of the language.

@@ -15,7 +15,7 @@ pub record IsCutting (p : ProblemData) (path : List Branch) (box : Region) (plac
   pub splits : AllSplit box (drop place path)
   pub region : IsRegion p box
 
--- the branch at a place, and what is left behind it
+-- the branch at a place, and what is left after it
 left_at : (path : List Branch) (place : ℕ) (branch : Branch) → slice_get path place ≡ Some branch → drop place path ≡ branch ∷ drop (place + 1) path
 left_at path place branch is =
     drop_more path place branch (slice_get_within path place branch is) ∙ ap (λ (b : Branch). b ∷ drop (place + 1) path) (get_or_from_slice_get path place branch branch is)

@@ -59,7 +59,7 @@ pub mass_more : (p : ProblemData) (mult : Mult) (n i : ℕ) → n ≤ row_count 
 mass_more p mult n i h =
     omega (arith, count-more (λ (j : ℕ). nat_at mult.lambda j * unsigned_abs (coefficient_of p j i)) n (row_count p) h)
 
--- what stands at a place of a block
+-- what is at a place of a block
 pub piece_at : (xs : List ℤ) (start count k : ℕ) → k < count → int_at (slice_range xs start (start + count)) k ≡ int_at xs (start + k)
 piece_at xs start count k h = get_or-between xs start (start + count) k (pos 0) (omega (arith, h))
 

@@ -6,7 +6,7 @@ use Rattle.lin_bound.specs.Sums.{sum_below, int_at, nat_at}
 use Rattle.lin_bound.specs.Bound.{greatest}
 use Rattle.lin_bound.specs.declared.region.Region.{Region}
 
--- the least w * t for low <= t <= high: it stands at one of the ends
+-- the least w * t for low <= t <= high: it is at one of the ends
 abbrev pub least : ℤ → ℕ → ℕ → ℤ
 least w low high = int_min (w *ℤ pos low) (w *ℤ pos high)
 

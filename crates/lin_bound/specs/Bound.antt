@@ -22,7 +22,7 @@ share_of p mult i j = pos (nat_at mult.lambda j) *ℤ coefficient_of p j i
 abbrev pub weight : ProblemData → Mult → ℕ → ℤ
 weight p mult i = (pos mult.d *ℤ int_at p.cost i) -ℤ sum_below (share_of p mult i) (row_count p)
 
--- the greatest w * t for low <= t <= high: it stands at one of the ends
+-- the greatest w * t for low <= t <= high: it is at one of the ends
 abbrev pub greatest : ℤ → ℕ → ℕ → ℤ
 greatest w low high = int_max (w *ℤ pos low) (w *ℤ pos high)
 

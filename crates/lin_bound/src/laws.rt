@@ -1,7 +1,7 @@
 //! The laws that a search rests on, each proved for every problem.
 ghost use Rattle.lin_bound.specs.Laws.{EndsAreGreatest, WeakDuality, ClosedHoldsNone, OnePointCloses, HalvesCover};
 
-/// The greatest of weight times count stands at one of the ends.
+/// The greatest of weight times count is at one of the ends.
 pub fn ends_are_greatest()
     ensures { EndsAreGreatest }
 {}

@@ -1,4 +1,3 @@
--- Private: `Linear`.
 -- A program with the ids of its variables' rows.
 use Rattle.std.specs.Prelude.{◌≡◌, ℕ, suc, ◌<◌, ◌≤◌, List, [], ◌∷◌, length}
 use Rattle.lin_bound.specs.Problem.{ProblemData, variables}

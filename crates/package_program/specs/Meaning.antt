@@ -1,4 +1,3 @@
--- Private: the laws of `src/laws.rt`, on which every answer of the search rests.
 -- The program means the query.
 use Rattle.std.specs.Prelude.{◌≡◌, ◌↔◌, ℕ, ◌+◌, ◌≤◌, List, IfSome}
 use Rattle.std.specs.List.{AllByRecursion}

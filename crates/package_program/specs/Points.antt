@@ -1,4 +1,3 @@
--- Private: `package_of` and `point_of`, and the search above them.
 -- The package of a point.
 use Rattle.std.specs.Prelude.{◌≡◌, ℕ, zero, suc, ◌<◌, ◌≤◌, List, [], ◌∷◌, length, ◌==◌, if◌then◌else◌}
 use Rattle.std.specs.List.{AllByRecursion}

@@ -1,4 +1,3 @@
--- Private: the translation of `src/translation.rt`, and the search above it.
 -- The bounded integer program of a package query: a variable for each row that can be taken, which
 -- says how often it is, and one or two rows for each condition.
 use Rattle.std.specs.Prelude.{ℕ, zero, suc, ◌*◌, ◌^◌, ◌≤◌, Bool, true, false, not, List, [], ◌∷◌, map, flat_map, filter, length, replicate, sum, unsigned_abs}

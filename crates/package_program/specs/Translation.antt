@@ -1,4 +1,3 @@
--- Private: `translate`, and the private functions below it.
 -- What the translation of a bound query is, and when there is none.
 use Rattle.std.specs.Prelude.{◌≡◌, ℕ, ◌+◌, ◌<◌, ◌≤◌, List, [], length, map, flat_map, take, sum, slice_index_or, ℤ, Result, Ok, Err}
 use Rattle.std.specs.Borrow.{Bor}

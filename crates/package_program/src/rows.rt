@@ -40,6 +40,7 @@ pub struct Rows {
 }
 
 impl Rows {
+    /// No row yet.
     pub fn new(alloc: Global) -> Rows
         ensures rows { result.rows ≡ [] }
         ensures rhs { result.rhs ≡ [] }

@@ -14,7 +14,7 @@ pub record IsListed {R : Type 0} (rows : List (ℕ × R)) (pair : ℕ × ℕ) : 
   pub row : R
   pub found : row_at pair.0 rows ≡ Some row
 
--- another row's entry in front changes nothing
+-- another row's entry before it changes nothing
 row_at-other : {R : Type 0} (id : ℕ) (entry : ℕ × R) (entries : List (ℕ × R)) → entry.0 ≢ id → row_at id (entry ∷ entries) ≡ row_at id entries
 row_at-other id entry entries ne = cond-false _ _ _ (ne_eqb entry.0 id ne)
 

@@ -12,7 +12,7 @@ use Rattle.package_query.specs.declared.plain.PlainBest.{PlainBest}
 use Rattle.package_query.specs.declared.plain.PlainQuery.{PlainQuery}
 use Rattle.package_query.proofs.Table.{TakesFrom-allowed}
 
--- the packages with fewer than so many copies of one row behind the chosen pairs
+-- the packages with fewer than so many copies of one row after the chosen pairs
 abbrev pub IsTriedBelow : {R : Type 0} → ℕ → ℕ → List (ℕ × ℕ) → List (ℕ × R) → List (ℕ × ℕ) → Type 0
 IsTriedBelow below id chosen left pairs =
     (count : ℕ) × (count < below) × Extends (chosen ++ copies_of id count) left pairs

@@ -10,7 +10,7 @@ abbrev pub copies_give : {R : Type 0} → List (R → ℤ) → ℕ → R → ℤ
 copies_give [] count row = pos 0
 copies_give (term ∷ terms) count row = (pos count *ℤ term row) +ℤ copies_give terms count row
 
--- the same of the row with an id, and 0 where the table has none
+-- the same of the row with an id, and 0 if the table has none
 abbrev pub pair_gives : {R : Type 0} → List (R → ℤ) → ℕ → Option R → ℤ
 pair_gives terms count None = pos 0
 pair_gives terms count (Some row) = copies_give terms count row
@@ -37,7 +37,7 @@ pub record Meets {R : Type 0} (query : PackageQuery R) (rows : List (ℕ × R)) 
   pub each : AllByRecursion (IsAllowed query rows) pairs
   pub conjuncts : AllByRecursion (Keeps rows pairs) query.conjuncts
 
--- the goal's total, negated where it is to be least, and 0 without a goal
+-- the goal's total, negated if it is to be least, and 0 without a goal
 abbrev pub goal_worth : {R : Type 0} → Option (Goal R) → List (ℕ × R) → List (ℕ × ℕ) → ℤ
 goal_worth None rows pairs = pos 0
 goal_worth (Some goal) rows pairs =

@@ -1,3 +1,4 @@
+-- Private: the plain program of `src/plain.rt`, with which the meaning of a query is tested.
 -- Plain queries, as the plain program computes them: a row is the list of its numbers, and a term the place of one.
 use Rattle.std.specs.Prelude.{ℕ, ◌^◌, ◌<◌, ◌≤◌, List, length, map, ℤ, pos, true, Option, None, Some, IfSome, slice_index_or}
 use Rattle.std.specs.List.{AllByRecursion}

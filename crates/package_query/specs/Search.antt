@@ -37,7 +37,7 @@ pub record Improves {R : Type 0} (query : PackageQuery R) (rows : List (ℕ × R
 abbrev pub Extends : {R : Type 0} → List (ℕ × ℕ) → List (ℕ × R) → List (ℕ × ℕ) → Type 0
 Extends chosen left pairs = (tail : List (ℕ × ℕ)) × (pairs ≡ chosen ++ tail) × TakesFrom left tail
 
--- of what was found and a candidate, the one that is worth more; the first where both are worth the same
+-- of what was found and a candidate, the one that is worth more; the first if both are worth the same
 abbrev pub IsBetterOf : Option PlainBest → PlainBest → PlainBest → Type 0
 IsBetterOf None candidate better = better ≡ candidate
 IsBetterOf (Some best) candidate better =

@@ -60,7 +60,7 @@ pub fn is_package(pairs: &[(u64, u64)]) -> bool
     true
 }
 
-/// Whether the package meets the query over this table, whose rows stand behind their ids.
+/// Whether the package meets the query over this table, whose rows come after their ids.
 pub fn meets(query: &PlainQuery, rows: &[(u64, Items<i64>)], pairs: &[(u64, u64)]) -> bool
     requires small { IsSmall query.now rows.now }
     requires ascends { AscendsFrom 0 rows.now }

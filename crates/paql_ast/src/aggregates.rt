@@ -1,4 +1,4 @@
-//! The trees of aggregates, and of the sums that they stand in.
+//! The trees of aggregates, and of the sums that they are in.
 
 use crate::conditions::{ColumnName, Pred};
 use pq_base::Scaled;
@@ -15,21 +15,21 @@ pub enum Plain {
 }
 
 /// An aggregate, with `only` over the copies that meet a condition: `(SELECT plain FROM name WHERE
-/// pred)`. The name behind FROM is kept as it is written.
+/// pred)`. The name after FROM is kept as it is written.
 #[derive(Drop)]
 pub struct Agg {
     pub plain: Plain,
     pub only: Option<(Text, Pred)>,
 }
 
-/// A number, or an aggregate with the factor in front of it, where one is written.
+/// A number, or an aggregate with the factor before it, where one is written.
 #[derive(Drop)]
 pub enum Term {
     Number(Scaled),
     Agg { factor: Option<Scaled>, agg: Agg },
 }
 
-/// A term of a sum, with a minus in front or not.
+/// A term of a sum, with a minus before it or not.
 #[derive(Drop)]
 pub struct SumItem {
     pub minus: bool,

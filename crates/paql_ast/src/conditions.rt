@@ -4,7 +4,7 @@ use schema_types::{Lit, Text};
 use sqlite_items::{Boxed, Items};
 
 /// A column as a statement names it: `name`, or `prefix.name` with a table, an alias or a package
-/// in front.
+/// before it.
 #[derive(Debug, Drop)]
 pub struct ColumnName {
     pub prefix: Option<Text>,

@@ -1,4 +1,3 @@
--- Private: `bind_pred` in `src/conditions.rt`, and binding above it.
 -- Conditions on rows: their faults, and what they are bound to.
 use Rattle.std.specs.Prelude.{Bool, List, [], ◌∷◌, ◌++◌, flat_map, Option, Some, None}
 use Rattle.schema_types.specs.declared.Lit.{Lit}

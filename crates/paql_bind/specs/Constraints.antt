@@ -1,4 +1,3 @@
--- Private: `src/constraints.rt`, and binding above it.
 -- Constraints and goals: their faults, and what they are bound to.
 use Rattle.std.specs.Prelude.{ℕ, max, true, false, List, [], ◌∷◌, ◌++◌, flat_map, pos, ◌-ℤ◌, Option, Some, None}
 use Rattle.pq_base.specs.declared.scaled.Scaled.{Scaled}

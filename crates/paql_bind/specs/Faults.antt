@@ -1,4 +1,3 @@
--- Private: binding, and what stands on it.
 -- What an answer has to do with a computed list of faults.
 use Rattle.std.specs.Prelude.{◌≡◌, List, [], ◌∷◌, Result, Ok, Err}
 use Rattle.paql_bind.specs.declared.faults.BindFault.{BindFault}

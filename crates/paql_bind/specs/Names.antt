@@ -1,4 +1,3 @@
--- Private: binding, and what stands on it.
 -- Columns by their names, and the faults of names and numbers.
 use Rattle.std.specs.Prelude.{ℕ, Bool, true, false, if◌then◌else◌, List, [], ◌∷◌, ◌++◌, slice_get, Option, Some, None, is_some, All, IsTrue}
 use Rattle.std.specs.Bool.{nat_lt}
@@ -24,7 +23,7 @@ pub record Scope : Type 0 where
 abbrev pub scope : List Column → List ℕ → Scope
 scope columns prefix = record { columns = columns; prefix = prefix }
 
--- each column keeps at most 6 digits after the point
+-- each column of decimals keeps 1 to 6 digits after the point
 abbrev pub IsLegal : Scope → Type 0
 IsLegal scope = All (λ (column : Column). IsTrue (has_legal_scale column.kind)) scope.columns
 

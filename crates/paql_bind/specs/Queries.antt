@@ -1,4 +1,3 @@
--- Private: `bind` in `src/queries.rt`, and what stands on it.
 -- Queries: their faults in order, and what they are bound to.
 use Rattle.std.specs.Prelude.{ℕ, ◌+◌, ◌-◌, ◌^◌, min, ◌&&◌, if◌then◌else◌, List, [], ◌∷◌, ◌++◌, length, Option, Some, None, unwrap_or}
 use Rattle.std.specs.Bool.{nat_lt, nat_le}

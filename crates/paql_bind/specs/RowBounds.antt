@@ -1,4 +1,3 @@
--- Private: `src/row_bounds.rt`, and binding above it.
 -- How often a row can occur in a package that meets a query, as far as REPEAT and counts say it.
 use Rattle.std.specs.Prelude.{ℕ, ◌+◌, ◌-◌, ◌/◌, ◌^◌, min, Bool, true, false, List, [], ◌∷◌, ℤ, pos, negsuc, Option, Some, None}
 use Rattle.std.specs.Int.{div_ceil}
@@ -49,7 +48,7 @@ abbrev pub at_least_zero : ℤ → ℕ
 at_least_zero (pos digits) = digits
 at_least_zero (negsuc before) = 0
 
--- the floor of a number, and the greatest whole number below it, the ceiling less one
+-- the floor of a number, and the greatest whole number below it, or 0 if there is none
 abbrev pub floor_of : ℕ → ℕ → ℕ
 floor_of digits scale = digits / 10 ^ scale
 

@@ -1,4 +1,3 @@
--- Private: `src/sums.rt`, and binding above it.
 -- Aggregates and sums: their faults, their scales, and the terms and numbers of a bound sum.
 use Rattle.std.specs.Prelude.{ℕ, ◌-◌, ◌^◌, max, Bool, not, ◌&&◌, ◌==◌, if◌then◌else◌, List, [], ◌∷◌, ◌++◌, flat_map, ℤ, pos, ◌+ℤ◌, ◌*ℤ◌, Option, Some, None}
 use Rattle.std.specs.Bool.{nat_le}
@@ -26,7 +25,7 @@ use Rattle.paql_bind.specs.declared.faults.Refusal.TheVariants.{NoTable, Factor}
 
 -- ---- faults
 
--- the name behind a FROM, or in a COUNT, is that of the scope
+-- the name after a FROM, or in a COUNT, is that of the scope
 abbrev pub name_faults : Scope → List ℕ → List Refusal
 name_faults scope name = if bytes_eq name scope.prefix then [] else NoTable name ∷ []
 
@@ -45,7 +44,7 @@ only_faults scope (Some only) = name_faults scope only.0 ++ pred_faults scope on
 abbrev pub agg_faults : Scope → Agg → List Refusal
 agg_faults scope agg = plain_faults scope agg.plain ++ only_faults scope agg.only
 
--- a factor that isn't whole, or is over 1,000,000
+-- a factor is whole, and at most 1,000,000
 abbrev pub is_factor : Scaled → Bool
 is_factor number = (number.scale == 0) && nat_le (unsigned_abs number.mant) MAX_FACTOR
 

@@ -1,5 +1,6 @@
 -- Which statements are performed so far, by their trees: CREATE TABLE, INSERT, and queries of the
--- last version that are solved exactly. Trees that no text has are not performed.
+-- last version that are solved exactly. A CREATE TABLE without a column, which no text has, is not
+-- performed.
 use Rattle.std.specs.Prelude.{ℕ, Bool, true, false, ◌&&◌, List, [], ◌∷◌, Option, Some, None, if◌then◌else◌}
 use Rattle.paql_ast.specs.declared.queries.Method.{Method}
 use Rattle.paql_ast.specs.declared.queries.Method.TheVariants.{Direct, SketchRefine}

@@ -60,7 +60,7 @@ kind_cause change (kinds.Memory error) = refusals.memory
 abbrev pub commit_cause : CommitFault → Refusal
 commit_cause fault = kind_cause fault.change fault.kind
 
--- the name that a refusal shows, if it shows one
+-- the name that the refusal of a change shows, if it shows one
 abbrev pub name_in : Refusal → List ℕ
 name_in (refusals.no_table change name) = name
 name_in (refusals.no_column change name) = name

@@ -161,9 +161,9 @@ part_rule {L = L} {n = n} starts x =
     (rule_optional (is kinds.Number) (is kinds.Number) starts_factor (within_same (is kinds.Number)) (within_none (is kinds.Number)) (factor_rule n))
     (λ times. rule_seq {q = λ of m. gives (terms.Agg times of)} x (λ of. rule_gives (terms.Agg times of) none n))
 
--- a term as it is read, by its first token, and behind a number by the next one
+-- a term as it is read, by its first token, and after a number by the next one
 module _ (L : Langs Lexeme Agg) where
-  -- behind a number: "*" agg, or nothing
+  -- after a number: "*" agg, or nothing
   abbrev behind_number : Scaled → Langs Lexeme Term
   behind_number value m = (word kinds.Star >> (L m >>= λ of. gives (terms.Agg (Some value) of))) or gives (terms.Number value)
 
@@ -198,7 +198,7 @@ module _ (L : Langs Lexeme Agg) where
       behind m w t front back value first (inr y) whole = inl (record { front = front; back = back; value = value; first = first; second = y; whole = whole })
   to_term m w t (inr x) = inr (record { front = []; back = w; value = None; first = inr (refl, refl); second = x; whole = refl })
 
-  -- an aggregate behind a factor or none, as a term
+  -- an aggregate after a factor or none, as a term
   abbrev times_agg : Option Scaled → Langs Lexeme Term
   times_agg times m = L m >>= λ of. gives (terms.Agg times of)
 
@@ -325,7 +325,7 @@ starts_sum {L = L} starts =
     starts_then (starts_among {L = λ m. optional (word kinds.Minus) >>= λ negative. L m >>= λ of. gives (item (is_some negative) of)} flat
     (starts_skip (within_word kinds.Minus (of_among sum_kinds) refl) (within_kinds term_kinds sum_kinds refl) starts_one_of (λ negative. starts_then starts)))
   where
-    -- an item with the optional minus in front, and no part around it
+    -- an item with the optional minus before it, and no part around it
     flat : (m : ℕ) (w : List Lexeme) (a : SumItem) → grammar.first_item (L m) w a → (optional (word kinds.Minus) >>= λ negative. L m >>= λ of. gives (item (is_some negative) of)) w a
     flat m w a t =
         let u = t.first in

@@ -1,4 +1,4 @@
--- The readings of AND and OR, where one part stands there and where there are more.
+-- The readings of AND and OR, where one part is there and where there are more.
 use Rattle.std.proofs.Common.{◌≡◌, ℕ, Bool, true, false, List, [], ◌∷◌, length, flat_map, Ok, Err, refl, sym, ap, subst, ◌∙◌}
 use Rattle.paql_lexer.specs.declared.vocabulary.Kind.TheVariants as kinds
 use Rattle.paql_ast.specs.declared.conditions.Pred.{Pred}
@@ -10,7 +10,7 @@ use Rattle.paql_grammar.specs.Lexemes.{Lexeme, is}
 use Rattle.paql_grammar.specs.Conditions.{and_parts, and_of, or_parts, or_of}
 use Rattle.paql_grammar.specs.ConditionReading.{next_and, more_and, and_rest, both, next_or, more_or, or_rest, joined}
 
--- what is made of a first part and those behind it
+-- what is made of a first part and those after it
 behind_first : {T A B : Type 0} (g h : List A → B) → ((a : A) (later : List A) → g (a ∷ later) ≡ h (a ∷ later)) → (a : A) (out : Outcome T (List A)) → and_then (and_then out (λ later. pure (a ∷ later))) (λ l. pure (g l)) ≡ and_then (and_then out (λ later. pure (a ∷ later))) (λ l. pure (h l))
 behind_first g h same a (Ok y) = ap (λ b. Ok (b, y.1)) (same a y.0)
 behind_first g h same a (Err e) = refl
@@ -19,7 +19,7 @@ first_of : {T A B : Type 0} (f : T → Bool) (p : Parser T A) (k : ℕ) (g h : L
 first_of f p k g h same (Ok x) = behind_first g h same x.0 (turns f p k x.1)
 first_of f p k g h same (Err e) = refl
 
--- where a part stands there, only lists of one part and more matter
+-- where a part is there, only lists of one part and more matter
 some_parts : {T A B : Type 0} (f : T → Bool) (p : Parser T A) (g h : List A → B) → ((a : A) (later : List A) → g (a ∷ later) ≡ h (a ∷ later)) → (s : List T) → sees f s ≡ true → and_then (repeat f p s) (λ l. pure (g l)) ≡ and_then (repeat f p s) (λ l. pure (h l))
 some_parts f p g h same [] sees-is = absurd (both_ways sees-is refl)
 some_parts f p g h same (t ∷ s) sees-is = rw sees-is (first_of f p (length s) g h same (p (t ∷ s)))
@@ -29,14 +29,14 @@ no_parts : {T A : Type 0} (f : T → Bool) (p : Parser T A) (s : List T) → see
 no_parts f p [] sees-is = refl
 no_parts f p (t ∷ s) sees-is = rw sees-is refl
 
--- two functions of a repetition, one behind the other
+-- two functions of a repetition, one after the other
 chained : {T A B C : Type 0} (o : Outcome T A) (f : A → B) (g : B → C) → and_then (and_then o (λ a. pure (f a))) (λ b. pure (g b)) ≡ and_then o (λ a. pure (g (f a)))
 chained (Ok x) f g = refl
 chained (Err e) f g = refl
 
 -- ---- AND
 
--- what stands behind a first part
+-- what comes after a first part
 and_behind : (single : Parser Lexeme Pred) (t : Pred) (u : List Lexeme) (b : Bool) → sees (is kinds.And) u ≡ b → and_then (and_then (repeat (is kinds.And) (next_and single) u) (λ later. pure (t ∷ later))) (λ parts. pure (and_of parts)) ≡ and_rest t single u
 unfolding and_rest more_and
 and_behind single t u true sees-is =

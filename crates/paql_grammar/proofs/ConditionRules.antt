@@ -244,7 +244,7 @@ joined_rule {P = P} {n = n} x = rule_as (read.joined P) (joined_is P) (
     (rule_listed (is kinds.Or) (among or_on) starts_one_of (apart_word kinds.Or (of_among and_on) refl) (within_word kinds.Or (of_among or_on) refl) (within_kinds and_on or_on refl) (word_rule kinds.Or n) x)
     (λ parts. rule_gives (or_of parts) (among or_on) n))
 
--- what stands behind an opening bracket
+-- what comes after an opening bracket
 abbrev inner : Lang Lexeme Pred → Lang Lexeme Pred
 inner pred = pred >>= λ t. word kinds.RightParen >> gives t
 
@@ -347,7 +347,7 @@ single_rule (suc n) = rule_same single to_single from_single (rule_when opens st
 pub pred_rule : (n : ℕ) → IsRule opens (λ m. pred m) (read.pred n) (among or_on) n
 pred_rule n = joined_rule (both_rule (single_rule n))
 
--- A part behind an AND or an OR takes a token, and so does a literal behind a comma.
+-- A part after an AND or an OR takes a token, and so does a literal after a comma.
 pub and_shrinks : (n : ℕ) → Shrinks (read.next_and (read.single n))
 and_shrinks n = shrinks {f = is kinds.And} (starts_behind kinds.And) (rule_seq (word_rule kinds.And n) (λ _. single_rule n))
 

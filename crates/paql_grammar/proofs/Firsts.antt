@@ -1,4 +1,4 @@
--- What stands first in a sequence: a word, or an optional part.
+-- What comes first in a sequence: a word, or an optional part.
 use Rattle.std.proofs.Common.{◌≡◌, ℕ, Bool, false, inl, inr, List, ◌++◌, Option, sym, ap, subst, ◌∙◌}
 use Rattle.paql_lexer.specs.declared.vocabulary.Kind.{Kind}
 use Rattle.formal_grammar.specs.Lang.{◌>>=◌, ◌>>◌, optional}
@@ -15,7 +15,7 @@ starts_behind kind = starts_then starts_one_of
 pub joins_behind : {A : Type 0} (kind : Kind) {before ext : Lexeme → Bool} {q : Langs Lexeme A} → OfKind before → before (sample kind) ≡ false → Joins before (λ m. word kind >> q m) ext
 joins_behind kind of outside = joins_starts (apart_word kind of outside) (starts_behind kind)
 
--- A sequence in which an optional part stands first begins as that part does, or as what follows.
+-- A sequence in which an optional part comes first begins as that part does, or as what follows.
 pub starts_skip : {A B : Type 0} {f g set : Lexeme → Bool} {p : Langs Lexeme A} {q : Option A → Langs Lexeme B} → Within f set → Within g set → Starts f p → ((o : Option A) → Starts g (q o)) → Starts set (λ m. optional (p m) >>= λ o. q o m)
 starts_skip {A = A} {B = B} {set = set} {p = p} {q = q} within_f within_g x y = record { first = λ m w b t. begins m w b t.front t.back t.value t.first t.second t.whole }
   where

@@ -109,7 +109,7 @@ pub without_last : (digits : List ℕ) → without_zeros (digits ++ 48 ∷ []) �
 without_last [] = refl
 without_last (digit ∷ digits) = ap (and_digits digit) (without_last digits)
 
--- a digit in front of others stays
+-- a digit before others stays
 stays : (digit : ℕ) (digits : List ℕ) (last : ℕ) → and_digits digit (digits ++ last ∷ []) ≡ digit ∷ (digits ++ last ∷ [])
 stays digit [] last = refl
 stays digit (next ∷ digits) last = refl

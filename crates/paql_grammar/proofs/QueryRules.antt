@@ -151,7 +151,7 @@ such_that_rule {L = L} {n = n} x =
     rule_seq {q = λ _ m. listed (word kinds.And) (L m)} (word_rule kinds.That n) (λ _.
     rule_listed (is kinds.And) constraint_ext starts_one_of (apart_word kinds.And (of_among sum_ends) refl) (within_word kinds.And (of_among constraint_ends) refl) (within_kinds sum_ends constraint_ends refl) (word_rule kinds.And n) x))
 
--- A constraint behind AND takes a token.
+-- A constraint after AND takes a token.
 pub next_constraint_shrinks : {L : Langs Lexeme Conjunct} {P : Parser Lexeme Conjunct} {n : ℕ} → IsRule opens L P sum_ext n → Shrinks (read.next_constraint P)
 next_constraint_shrinks {L = L} {n = n} x = shrinks (starts_behind kinds.And {q = L}) (rule_seq {q = λ _. L} (word_rule kinds.And n) (λ _. x))
 
@@ -159,7 +159,7 @@ next_constraint_shrinks {L = L} {n = n} x = shrinks (starts_behind kinds.And {q 
 abbrev conjuncts_of : Lang Lexeme Conjunct → Lang Lexeme (List Conjunct)
 conjuncts_of conj = grammar.such_that conj or gives []
 
--- these may stand behind a set of tokens
+-- these may comes after a set of tokens
 joins_conjuncts : {L : Langs Lexeme Conjunct} {before ext : Lexeme → Bool} → OfKind before → before (sample kinds.Such) ≡ false → Within before ext → (passes : Option Pred) → Joins before (λ m. conjuncts_of (L m) >>= λ conjuncts. gives (constraints_of passes conjuncts)) ext
 joins_conjuncts {L = L} {before = before} {ext = ext} of no_such within passes =
     joins_then {between = ext} {p = λ m. conjuncts_of (L m)}
@@ -180,7 +180,7 @@ constraints_rule {Lp = Lp} {Lc = Lc} {n = n} x y =
 
 -- ---- [ ( "MINIMIZE" | "MAXIMIZE" ) goal ] [ "USING" ( "DIRECT" | "SKETCHREFINE" ) ] [ "BUDGET" whole ]
 
--- Any token. Behind a text that any token would go on with stands nothing.
+-- Any token. After a text that any token would go on with there is nothing.
 abbrev pub any : Lexeme → Bool
 any t = true
 
@@ -223,7 +223,7 @@ joins_method of no_using no_budget best =
 abbrev goal_ends : List Kind
 goal_ends = kinds.Minimize ∷ kinds.Maximize ∷ sign_kinds
 
--- all that may stand at the end
+-- all that may are at the end
 ending_rule : {L : Langs Lexeme Goal} {P : Parser Lexeme Goal} {n : ℕ} → Starts (among goal_kinds) L → IsRule opens L P (among sign_kinds) n → IsRule opens (λ m. grammar.ending (L m)) (read.ending P) any n
 unfolding read.ending
 ending_rule {L = L} {n = n} starts x =
@@ -259,15 +259,15 @@ objective_rule {L = L} package_name x =
     goal_rule (sum_rule (starts_part starts) (λ t e. refl) (part_rule starts (agg_rule package_name (apart_word kinds.RightParen (of_among or_on) refl) x)))
 
 module _ (L : Langs Lexeme Pred) where
-  -- what stands behind the constraints
+  -- what comes after the constraints
   abbrev after_constraints : Head → Relation → Constraints → Langs Lexeme Query
   after_constraints first from such m = grammar.ending (aggregates.objective first.package_name (L m)) >>= λ last. gives (query_of first from such last)
 
-  -- what stands behind the relation
+  -- what comes after the relation
   abbrev after_relation : Head → Relation → Langs Lexeme Query
   after_relation first from m = grammar.constraints (L m) (aggregates.constraint first.package_name (L m)) >>= λ such. after_constraints first from such m
 
-  -- what stands behind the package
+  -- what comes after the package
   abbrev after_head : Head → Langs Lexeme Query
   after_head first m = grammar.relation >>= λ from. after_relation first from m
 

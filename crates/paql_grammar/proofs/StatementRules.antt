@@ -35,11 +35,11 @@ comma = is kinds.Comma
 list_rule : {A : Type 0} {p : Lang Lexeme A} {P : Parser Lexeme A} {n : ℕ} → IsRule opens (λ m. p) P none n → IsRule opens (λ m. listed (word kinds.Comma) p) (separated comma P) comma n
 list_rule {n = n} x = rule_listed comma comma starts_one_of (λ t _. refl) (within_same comma) (within_none comma) (word_rule kinds.Comma n) x
 
--- a list in front of a closing bracket
+-- a list before a closing bracket
 joins_close : {A : Type 0} {q : Langs Lexeme A} {ext : Lexeme → Bool} → Joins comma (λ m. word kinds.RightParen >> q m) ext
 joins_close = joins_behind kinds.RightParen (of_is kinds.Comma) refl
 
--- a value in front of the end
+-- a value before the end
 joins_end : {A : Type 0} (before : Lexeme → Bool) (a : A) → Joins before (λ m. gives a) any
 joins_end before a = joins_gives before a any (within_any before)
 
@@ -277,7 +277,7 @@ never_empty n t spells = nil_cons ((begun_statement n).starts.first n [] t spell
 pub one_statement : (m n : ℕ) (tokens : List Lexeme) (t u : Statement) → grammar.statement m tokens t → grammar.statement n tokens u → t ≡ u
 one_statement = one_value exact_statement
 
--- ---- items behind a comma take a token
+-- ---- items after a comma take a token
 
 pub column_shrinks : Shrinks read.next_column
 column_shrinks = shrinks {f = is kinds.Comma} (starts_behind kinds.Comma) (rule_seq (word_rule kinds.Comma 0) (λ _. defined_column_rule 0))

@@ -1,5 +1,5 @@
 -- Private: the parser: the contracts of its functions for sums and conditions.
--- The readings of aggregates, sums, constraints and goals, line by line as the grammar stands. That
+-- The readings of aggregates, sums, constraints and goals, line by line as in the grammar. That
 -- of conditions is an argument, and so is the package's name.
 use Rattle.std.specs.Prelude.{ℕ, Bool, true, false, is_some, List, ◌∷◌, Option, Some, None}
 use Rattle.pq_base.specs.declared.scaled.Scaled.{Scaled}
@@ -94,7 +94,7 @@ part agg = do
   of ← agg
   pure (terms.Agg times of)
 
--- "*" agg, behind a number
+-- "*" agg, after a number
 unfoldable pub multiple : Parser Lexeme Agg → Scaled → Parser Lexeme Term
 multiple agg times = do
   accept (this (is kinds.Star))
@@ -146,7 +146,7 @@ next_item term = do
   of ← term
   pure (record { minus = negative; term = of })
 
--- What stands behind a first item, which is put in front.
+-- What comes after a first item, which is put before it.
 unfoldable pub more_items : SumItem → Parser Lexeme Term → Parser Lexeme (List SumItem)
 more_items first term = do
   later ← repeat (among sign_kinds) (next_item term)
@@ -226,7 +226,7 @@ goal sum_of_parts = do
 
 -- ---- in a query, whose package has this name
 
--- A term, or a part where plain numbers may not stand.
+-- A term, or a part where plain numbers are not allowed.
 abbrev pub summand : Bool → List ℕ → Parser Lexeme Pred → Parser Lexeme Term
 summand true package_name pred = term (agg package_name pred)
 summand false package_name pred = part (agg package_name pred)

@@ -1,4 +1,4 @@
--- Aggregates, and the sums, constraints and goals that they stand in. A COUNT depends on the
+-- Aggregates, and the sums, constraints and goals that they are in. A COUNT depends on the
 -- package's name, and what has a condition in it on the language of conditions.
 use Rattle.std.specs.Prelude.{ℕ, Bool, true, false, is_some, if◌then◌else◌, List, [], ◌∷◌, Option}
 use Rattle.std.specs.Prelude.{Some, None}
@@ -132,7 +132,7 @@ minus = do
 abbrev pub sign : Lang Lexeme Bool
 sign = plus or minus
 
--- [ "-" ], and whether it stands there
+-- [ "-" ], and whether it is there
 abbrev pub leading_minus : Lang Lexeme Bool
 leading_minus = do
   negative ← optional (word kinds.Minus)

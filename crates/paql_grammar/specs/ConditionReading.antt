@@ -1,5 +1,5 @@
 -- Private: the parser: the contracts of its functions for literals and conditions.
--- The readings of literals, columns and conditions, line by line as the grammar stands.
+-- The readings of literals, columns and conditions, line by line as in the grammar.
 use Rattle.std.specs.Prelude.{ℕ, zero, suc, is_some, List, [], ◌∷◌, flat_map}
 use Rattle.pq_base.specs.declared.scaled.Scaled.{Scaled}
 use Rattle.paql_lexer.specs.declared.vocabulary.Kind.{Kind}
@@ -133,7 +133,7 @@ next_and single = do
   accept (this (is kinds.And))
   single
 
--- What stands behind a first part, whose parts are put in front.
+-- What comes after a first part, whose parts are put before it.
 unfoldable pub more_and : Pred → Parser Lexeme Pred → Parser Lexeme (List Pred)
 more_and first single = do
   later ← repeat (is kinds.And) (next_and single)

@@ -46,7 +46,7 @@ suffix = do
   word kinds.Dot
   name
 
--- The column with what stands behind its first name.
+-- The column with what comes after its first name.
 abbrev pub column_of : List ℕ → Option (List ℕ) → ColumnName
 column_of first (Some second) = record { prefix = Some first; name = second }
 column_of first None = record { prefix = None; name = first }

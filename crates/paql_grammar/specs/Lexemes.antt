@@ -31,7 +31,7 @@ abbrev pub among : List Kind → Lexeme → Bool
 among [] t = false
 among (kind ∷ kinds) t = is kind t || among kinds t
 
--- What stands between the first byte and the last.
+-- What is between the first byte and the last.
 abbrev pub inside : List ℕ → List ℕ
 inside bytes = take (length bytes - 2) (drop 1 bytes)
 
@@ -41,7 +41,7 @@ name_of t =
     if is kinds.Name t then Some t.bytes
     else (if is kinds.QuotedName t then Some (inside t.bytes) else None)
 
--- The bytes without each quote that a quote stands before. Where `twin` is true, the first byte is
+-- The bytes without each quote that a quote comes before. Where `twin` is true, the first byte is
 -- such a quote.
 abbrev pub undoubled : Bool → List ℕ → List ℕ
 undoubled twin [] = []

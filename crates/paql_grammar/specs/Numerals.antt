@@ -11,7 +11,7 @@ use Rattle.pq_base.specs.Decimal.{signed}
 use Rattle.pq_base.specs.declared.scaled.Scaled.{Scaled}
 
 -- The number mant / 10^scale as it is stored, by what is decided of it: that it has at most 30
--- digits and 30 places, and no zero behind the point that stands last.
+-- digits and 30 places, and no zero after the point as the last digit.
 abbrev pub stored : (mant : ℤ) (scale : ℕ) → Dec (unsigned_abs mant < 10 ^ 30) → Dec (scale ≤ 30)
     → Dec (unsigned_abs mant % 10 ≡ 0) → Option Scaled
 stored mant zero (yes small) (yes shallow) last =
@@ -38,7 +38,7 @@ scaled mant scale =
     stored mant scale (dec_lt (unsigned_abs mant) (10 ^ 30)) (dec_le scale 30)
     (ℕ_discrete (unsigned_abs mant % 10) 0)
 
--- What stands before the first point, and what stands behind it.
+-- What comes before the first point, and what comes after it.
 abbrev pub before_point : List ℕ → List ℕ
 before_point [] = []
 before_point (byte ∷ bytes) = if byte == 46 then [] else byte ∷ before_point bytes
@@ -47,7 +47,7 @@ abbrev pub behind_point : List ℕ → List ℕ
 behind_point [] = []
 behind_point (byte ∷ bytes) = if byte == 46 then bytes else behind_point bytes
 
--- The digit, unless it is a zero with nothing behind it.
+-- The digit, unless it is a zero with nothing after it.
 abbrev pub and_digits : ℕ → List ℕ → List ℕ
 and_digits digit [] = if digit == 48 then [] else digit ∷ []
 and_digits digit (next ∷ digits) = digit ∷ (next ∷ digits)
@@ -57,14 +57,14 @@ abbrev pub without_zeros : List ℕ → List ℕ
 without_zeros [] = []
 without_zeros (digit ∷ digits) = and_digits digit (without_zeros digits)
 
--- The number with these digits before the point and behind it, below zero or not.
+-- The number with these digits before the point and after it, below zero or not.
 abbrev pub number_of_digits : Bool → List ℕ → List ℕ → Option Scaled
 number_of_digits minus whole fraction =
     if all_ascii_digits (whole ++ fraction)
     then scaled (signed minus (digits_value 10 (whole ++ fraction))) (length fraction)
     else None
 
--- The number that a text is, below zero or not. Zeros at the end behind the point don't count.
+-- The number that a text is, below zero or not. Zeros at the end after the point don't count.
 abbrev pub number_in : Bool → List ℕ → Option Scaled
 number_in minus text =
     number_of_digits minus (before_point text) (without_zeros (behind_point text))

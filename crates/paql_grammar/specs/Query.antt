@@ -18,7 +18,7 @@ pub record Head : Type 0 where
   pub of : List ℕ
   pub package_name : List ℕ
 
--- What stands behind FROM.
+-- What comes after FROM.
 pub record Relation : Type 0 where
   pub table : List ℕ
   pub alias : Option (List ℕ)

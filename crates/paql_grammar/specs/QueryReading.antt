@@ -1,5 +1,5 @@
 -- Private: the parser: the contracts of its functions for queries.
--- The readings of a query's parts, line by line as the grammar stands. That of conditions is an
+-- The readings of a query's parts, line by line as in the grammar. That of conditions is an
 -- argument.
 use Rattle.std.specs.Prelude.{ℕ, List, []}
 use Rattle.paql_lexer.specs.declared.vocabulary.Kind.TheVariants as kinds

@@ -1,5 +1,5 @@
 -- Private: the parser: the contracts of its functions for statements.
--- The readings of statements, line by line as the grammar stands.
+-- The readings of statements, line by line as in the grammar.
 use Rattle.std.specs.Prelude.{ℕ, false, List}
 use Rattle.paql_lexer.specs.declared.vocabulary.Kind.TheVariants as kinds
 use Rattle.schema_types.specs.declared.Lit.{Lit}
@@ -203,7 +203,7 @@ session n =
     (when (is kinds.Commit) commit
     (when (is kinds.Rollback) rollback (when (is kinds.Certificate) certificate (package_query n))))
 
--- those that change rows, and what stands behind them
+-- those that change rows, and what comes after them
 unfoldable pub change : ℕ → Parser Lexeme Statement
 change n =
     when (is kinds.Update) (update n)

@@ -18,7 +18,7 @@ word_too_long text front behind whole all ends long kind word rest e is =
     let same = run_once (in_run run.Word) word front rest behind is.is_word.all all is.ends ends (sym e ∙ whole) in
     omega (arith, is.is_word.short, ap (λ (w : List ℕ). length w) same, long)
 
--- a quoted name is the run behind the quote, and a quote
+-- a quoted name is the run after the quote, and a quote
 pub quoted_name_is : (body front behind : List ℕ) → body ≡ front ++ behind → AllIn (in_run run.Word) front → EndsRun (in_run run.Word) behind → (kind : Kind) (word rest : List ℕ) → 34 ∷ body ≡ word ++ rest → IsQuotedName kind word rest → IsWord front × (behind ≡ 34 ∷ rest)
 quoted_name_is body front behind whole all ends kind word rest e is =
     let quotes : 34 ∷ body ≡ 34 ∷ ((is.name ++ 34 ∷ []) ++ rest) = e ∙ ap (λ (w : List ℕ). w ++ rest) is.quotes in
@@ -27,14 +27,14 @@ quoted_name_is body front behind whole all ends kind word rest e is =
     let same = run_once (in_run run.Word) is.name front (34 ∷ rest) behind is.is_word.all all refl ends names in
     (subst (λ (w : List ℕ). IsWord w) same is.is_word, sym (same_tail is.name front (34 ∷ rest) behind same names))
 
--- a run that is a word, and a quote behind it, are a quoted name
+-- a run that is a word, and a quote after it, are a quoted name
 pub quoted_name_found : (body front behind : List ℕ) → body ≡ front ++ behind → IsWord front → BeginsWith 34 behind → Finds IsQuotedName (34 ∷ body) (Some (kinds.QuotedName, length front + 2))
 quoted_name_found body front behind whole is_word quote =
     let rest = begins_is 34 behind quote in
     let text : 34 ∷ body ≡ (34 ∷ (front ++ 34 ∷ [])) ++ rest.0 = ap (λ (w : List ℕ). 34 ∷ w) (whole ∙ (ap (λ (w : List ℕ). front ++ w) rest.1 ∙ sym (append_assoc front (34 ∷ []) rest.0))) in
     (34 ∷ (front ++ 34 ∷ []), rest.0, record { name = front; is_word = is_word; quotes = refl; meaning = refl }, text, omega (arith, length-append front (34 ∷ [])))
 
--- the digits of a number are those at the front of the text
+-- the digits of a number are those at the start of the text
 pub number_is : (text whole behind fraction rest : List ℕ) → text ≡ whole ++ behind → AllDigits 10 whole → (BeginsWithDigit behind → ⊥) → behind ≡ point_and fraction ++ rest → AllDigits 10 fraction → (BeginsWithDigit rest → ⊥) → (fraction ≡ [] → BeginsWithPlace rest → ⊥) → (kind : Kind) (word after : List ℕ) → text ≡ word ++ after → IsNumber kind word after → (is_whole : List ℕ) × (is_fraction : List ℕ) × (is_whole ≡ whole) × (is_fraction ≡ fraction) × (length is_whole + length is_fraction ≤ 30)
 number_is text whole behind fraction rest front digits no_more back places no_place longest kind word after e is =
     let own = point_and is.fraction in
@@ -54,7 +54,7 @@ some_digit : (text whole behind : List ℕ) → BeginsWithDigit text → text �
 some_digit text [] behind first e none = absurd (none (subst BeginsWithDigit e first))
 some_digit text (digit ∷ whole) behind first e none = omega arith
 
--- the digits at the front are a number
+-- the digits at the start are a number
 pub number_found : (text whole behind fraction rest : List ℕ) → BeginsWithDigit text → text ≡ whole ++ behind → AllDigits 10 whole → (BeginsWithDigit behind → ⊥) → behind ≡ point_and fraction ++ rest → AllDigits 10 fraction → (BeginsWithDigit rest → ⊥) → (fraction ≡ [] → BeginsWithPlace rest → ⊥) → length whole + length fraction ≤ 30 → Finds IsNumber text (Some (kinds.Number, length text - length rest))
 number_found text whole behind fraction rest first front digits no_more back places no_place longest short =
     let word = whole ++ point_and fraction in
@@ -108,7 +108,7 @@ short_sign_found (a ∷ rest) kind none some e = (a ∷ [], rest, record { sign 
     ends [] h = tt
     ends (b ∷ s) h = h
 
--- no sign stands where neither one byte nor two are one
+-- there is no sign where neither one byte nor two are one
 pub no_sign_found : (text : List ℕ) → long_sign_at text ≡ None → short_sign (get_or text 0 0) ≡ None → (kind : Kind) → NoneAt (IsSign kind) text
 no_sign_found text none none_short kind [] rest e is = let h : None ≡ Some kind = is.sign in cc h
 no_sign_found text none none_short kind (a ∷ []) rest e is =

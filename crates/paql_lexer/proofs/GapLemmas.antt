@@ -12,7 +12,7 @@ space_not_minus byte bytes line rest space e =
     let no : is_space 45 ≡ true = subst (λ (n : ℕ). is_space n ≡ true) minus space in
     cc no
 
--- there is one piece at the front of a text
+-- there is one piece at the start of a text
 pub one_piece : (p q x y : List ℕ) → IsPiece p x → IsPiece q y → p ++ x ≡ q ++ y → p ≡ q
 one_piece p q x y (inl s) (inl t) e =
     let front : s.0 ∷ x ≡ t.0 ∷ y = ap (λ (w : List ℕ). w ++ x) (sym s.2) ∙ (e ∙ ap (λ (w : List ℕ). w ++ y) t.2) in
@@ -30,7 +30,7 @@ one_piece p q x y (inr s) (inr t) e =
     let same = run_once (in_run run.Line) s.0 t.0 x y s.1 t.1 s.3 t.3 lines in
     s.2 ∙ (ap (λ (w : List ℕ). 45 ∷ (45 ∷ w)) same ∙ sym t.2)
 
--- there is one list of pieces at the front of a text
+-- there is one list of pieces at the start of a text
 one_run_of_pieces : (ps qs : List (List ℕ)) (x y : List ℕ) → ArePieces ps x → ArePieces qs y → concat ps ++ x ≡ concat qs ++ y → concat ps ≡ concat qs
 one_run_of_pieces [] [] x y p q e = refl
 one_run_of_pieces [] (b ∷ qs) x y p q e =
@@ -43,12 +43,12 @@ one_run_of_pieces (a ∷ ps) (b ∷ qs) x y p q e =
     let rest = one_run_of_pieces ps qs x y p.1 q.1 (same_tail a b (concat ps ++ x) (concat qs ++ y) same whole) in
     cc (same, rest)
 
--- there is one gap at the front of a text
+-- there is one gap at the start of a text
 pub one_gap : (g h x y : List ℕ) → IsGap g x → IsGap h y → g ++ x ≡ h ++ y → g ≡ h
 one_gap g h x y p q e =
     p.2 ∙ (one_run_of_pieces p.0 q.0 x y p.1 q.1 (ap (λ (w : List ℕ). w ++ x) (sym p.2) ∙ (e ∙ ap (λ (w : List ℕ). w ++ y) q.2)) ∙ sym q.2)
 
--- what is a gap at the front of the rest goes on one at the front of the text
+-- what is a gap at the start of the rest goes on one at the start of the text
 abbrev pub ExtendsGaps : List ℕ → List ℕ → Type 0
 ExtendsGaps text rest = (gap end : List ℕ) → IsGap gap end → rest ≡ gap ++ end → (front : List ℕ) × IsGap front end × (text ≡ front ++ end)
 
@@ -68,6 +68,6 @@ pub piece_some : (piece rest : List ℕ) → IsPiece piece rest → 0 < length p
 piece_some piece rest (inl s) = omega (arith, ap (λ (w : List ℕ). length w) s.2)
 piece_some piece rest (inr s) = omega (arith, ap (λ (w : List ℕ). length w) s.2)
 
--- behind the last piece the gap is done
+-- after the last piece the gap is done
 pub gap_done : (text rest : List ℕ) → ExtendsGaps text rest → NoneAt IsPiece rest → (gap : List ℕ) × IsGap gap rest × (text ≡ gap ++ rest)
 gap_done text rest extends none = extends [] rest ([], none, refl) refl

@@ -3,7 +3,7 @@ use Rattle.std.proofs.Common.{◌≡◌, ℕ, ◌+◌, ◌<◌, ◌≤◌, Bool,
 use Rattle.std.proofs.lemmas.List.{append_cancel_right, drop_more, drop_at, drop_all}
 use Rattle.paql_lexer.specs.Lexical.{EndsRun, BeginsWith, Closes, ClosesBehind, GoesOn, doubled, is_quote}
 
--- what stands behind a byte of content
+-- what comes after a byte of content
 abbrev behind : Bool → List ℕ → List ℕ
 behind quote bytes = cond quote (39 ∷ bytes) bytes
 
@@ -13,7 +13,7 @@ no_quote_behind rest more ends e =
     let fails : is_quote 39 ≡ false = subst (λ (s : List ℕ). EndsRun is_quote s) e ends in
     cc fails
 
--- content doesn't begin where its closing quote stands
+-- content doesn't begin where its closing quote is
 closing_is_no_content : (byte : ℕ) (content x rest : List ℕ) → EndsRun is_quote rest → doubled (byte ∷ content) ++ x ≡ 39 ∷ rest → ⊥
 closing_is_no_content byte content x rest ends e =
     let quote : byte ≡ 39 = cc in
@@ -26,7 +26,7 @@ same_behind : (quote : Bool) (one other x y : List ℕ) → behind quote one ++ 
 same_behind true one other x y e = cc
 same_behind false one other x y e = e
 
--- the content up to the closing quote goes on with each front of it
+-- the content up to the closing quote goes on with each prefix of it
 pub content_goes_on : (front content x rest : List ℕ) → EndsRun is_quote rest → doubled front ++ x ≡ doubled content ++ 39 ∷ rest → (more : List ℕ) × (x ≡ doubled more ++ 39 ∷ rest)
 content_goes_on [] content x rest ends e = (content, e)
 content_goes_on (byte ∷ front) [] x rest ends e = absurd (closing_is_no_content byte front x rest ends e)
@@ -46,7 +46,7 @@ one_content a b x y ends_x ends_y e =
     closed [] f = let same : x ≡ y = cc in append_cancel_right (doubled a) (doubled b) (39 ∷ x) (e ∙ ap (λ (w : List ℕ). doubled b ++ 39 ∷ w) (sym same))
     closed (byte ∷ more) f = absurd (closing_is_no_content byte more (39 ∷ y) x ends_x (sym f))
 
--- a front of two parts behind a byte
+-- a prefix of two parts after a byte
 behind-append : (quote : Bool) (whole one other : List ℕ) → whole ≡ one ++ other → behind quote whole ≡ behind quote one ++ other
 behind-append true whole one other e = ap (λ (w : List ℕ). 39 ∷ w) e
 behind-append false whole one other e = e
@@ -89,7 +89,7 @@ content_more body at len before within (inr two) =
     let twin = begins_is 39 (drop (at + 1) body) two.1 in
     content_push body at 39 len twin.0 before (drop_more body at 0 within ∙ (ap (λ (n : ℕ). n ∷ drop (at + 1) body) two.0 ∙ ap (λ (w : List ℕ). 39 ∷ w) twin.1)) (sym two.2)
 
--- a quote that closes, behind the content
+-- a quote that closes, after the content
 pub content_closes : (body : List ℕ) (at : ℕ) → IsContentBefore body at → at < length body → Closes (get_or body at 0) (drop (at + 1) body) → (content : List ℕ) × ClosesBehind body content × (length (doubled content) ≡ at)
 content_closes body at before within closes =
     let front : before.1 ≡ 39 ∷ drop (at + 1) body = sym (rest_is body at before) ∙ (drop_more body at 0 within ∙ ap (λ (n : ℕ). n ∷ drop (at + 1) body) closes.0) in

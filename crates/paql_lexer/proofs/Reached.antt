@@ -10,7 +10,7 @@ use Rattle.paql_lexer.proofs.GapLemmas.{one_gap}
 use Rattle.paql_lexer.proofs.Runs.{same_tail}
 use Rattle.paql_lexer.proofs.TokenLemmas.{one_token, token_some}
 
--- the tokens so far, and what stands behind them and a gap
+-- the tokens so far, and what comes after them and a gap
 pub record IsReached (text : List ℕ) (tokens : List Token) (rest : List ℕ) : Type 0 where
   pub reached : Reaches 0 text tokens rest
 
@@ -20,7 +20,7 @@ reaches_within at text [] rest r = omega (arith, ap (λ (x : List ℕ). length x
 reaches_within at text (token ∷ tokens) rest r =
     omega (arith, ap (λ (x : List ℕ). length x) r.5, length-append r.0 (r.1 ++ r.2), length-append r.1 r.2, reaches_within token.end r.2 tokens rest r.8)
 
--- one token more, and the gap behind it
+-- one token more, and the gap after it
 reaches_more : (at : ℕ) (text : List ℕ) (tokens : List Token) (token : Token) (word behind gap rest : List ℕ) → Reaches at text tokens (word ++ behind) → Is token.kind word behind → IsGap gap rest → behind ≡ gap ++ rest → token.start + length (word ++ behind) ≡ at + length text → token.end ≡ token.start + length word → Reaches at text (tokens ++ token ∷ []) rest
 reaches_more at text [] token word behind gap rest r is is_gap e start end =
     let place : token.start ≡ at + length r.0 = omega (arith, start, ap (λ (x : List ℕ). length x) r.2, length-append r.0 (word ++ behind)) in
@@ -39,7 +39,7 @@ reached_first text rest first = record { reached = first }
 pub reached_within : (text : List ℕ) (tokens : List Token) (rest : List ℕ) → IsReached text tokens rest → length rest ≤ length text
 reached_within text tokens rest r = reaches_within 0 text tokens rest r.reached
 
--- a token that is found, and the gap behind it
+-- a token that is found, and the gap after it
 pub reached_more : (text : List ℕ) (tokens : List Token) (rest next : List ℕ) (kind : Kind) (len : ℕ) → IsReached text tokens rest → Finds Is rest (Some (kind, len)) → (gap : List ℕ) × IsGap gap next × (drop len rest ≡ gap ++ next) → IsReached text (tokens ++ made_of kind (length text - length rest) (length text - length rest + len) ∷ []) next
 reached_more text tokens rest next kind len r found gap =
     let start = length text - length rest in

@@ -14,7 +14,7 @@ ends_not_passes test byte bytes rest ends passes e =
     let fails : test byte ≡ false = subst (λ (s : List ℕ). EndsRun test s) e ends in
     false≢true (sym fails ∙ passes)
 
--- there is one run at the front of a text
+-- there is one run at the start of a text
 pub run_once : (test : ℕ → Bool) (a b x y : List ℕ) → AllIn test a → AllIn test b → EndsRun test x → EndsRun test y → a ++ x ≡ b ++ y → a ≡ b
 run_once test [] [] x y p q no_x no_y e = refl
 run_once test [] (d ∷ b) x y p q no_x no_y e = absurd (ends_not_passes test d (b ++ y) x no_x q.0 e)

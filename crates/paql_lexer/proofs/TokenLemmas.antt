@@ -1,4 +1,4 @@
--- Lemmas on the token at the front of a text.
+-- Lemmas on the token at the start of a text.
 use Rattle.std.proofs.Common.{◌≡◌, ℕ, ◌<◌, ◌≤◌, List, [], ◌∷◌, ◌++◌, length, get_or, Option, Some, None, refl, sym, ap, ◌∙◌, subst, arith, append_assoc, length-append}
 use Rattle.std.specs.Str.Parse.{AllDigits}
 use Rattle.pq_base.specs.Decimal.{BeginsWithDigit, point_and}
@@ -36,12 +36,12 @@ text_once k l w v r s p q e =
     let same = one_content p.content q.content r s p.ends q.ends contents in
     (p.quotes ∙ (ap (λ (x : List ℕ). 39 ∷ (x ++ 39 ∷ [])) same ∙ sym q.quotes), p.meaning ∙ sym q.meaning)
 
--- no digit stands at a point or at the end of a number
+-- no digit is at a point or at the end of a number
 pub no_digit_behind : (fraction rest : List ℕ) → (BeginsWithDigit rest → ⊥) → BeginsWithDigit (point_and fraction ++ rest) → ⊥
 no_digit_behind [] rest none h = none h
 no_digit_behind (digit ∷ fraction) rest none h = omega arith
 
--- one fraction behind the whole digits
+-- one fraction after the whole digits
 pub fraction_once : (f g r s : List ℕ) → AllDigits 10 f → AllDigits 10 g → (BeginsWithDigit r → ⊥) → (BeginsWithDigit s → ⊥) → (f ≡ [] → BeginsWithPlace r → ⊥) → (g ≡ [] → BeginsWithPlace s → ⊥) → point_and f ++ r ≡ point_and g ++ s → f ≡ g
 fraction_once [] [] r s p q no_r no_s long_r long_s e = refl
 fraction_once [] (d ∷ g) r s p q no_r no_s long_r long_s e =
@@ -62,7 +62,7 @@ number_once k l w v r s p q e =
     let fractions = fraction_once p.fraction q.fraction r s p.places q.places p.ends q.ends p.longest q.longest both.1 in
     (p.spelled ∙ (ap (λ (x : List ℕ). x ++ one) both.0 ∙ (ap (λ (x : List ℕ). q.whole ++ point_and x) fractions ∙ sym q.spelled)), p.meaning ∙ sym q.meaning)
 
--- a longer sign stands where a shorter one doesn't end
+-- there is a longer sign where a shorter one doesn't end
 longer_sign : (k l : Kind) (a b c : ℕ) (r s : List ℕ) → IsSign k (a ∷ []) r → IsSign l (b ∷ (c ∷ [])) s → a ∷ r ≡ b ∷ (c ∷ s) → ⊥
 longer_sign k l a b c r s p q e =
     let first : a ≡ b = cc in
@@ -97,7 +97,7 @@ of_class_once class.Quote = text_once
 of_class_once class.NameQuote = quoted_name_once
 of_class_once class.Mark = sign_once
 
--- there is one token at the front of a text
+-- there is one token at the start of a text
 pub one_token : (k l : Kind) (w v r s : List ℕ) → Is k w r → Is l v s → w ++ r ≡ v ++ s → (w ≡ v) × (k ≡ l)
 one_token k l [] v r s p q e = absurd p
 one_token k l (a ∷ w) [] r s p q e = absurd q
@@ -138,7 +138,7 @@ pub found_by_first : (c : Class) (text : List ℕ) (found : Option (Kind × ℕ)
 found_by_first c [] found some e finds = absurd (omega arith)
 found_by_first c (first ∷ body) found some e finds = found_of_class first body found (subst (λ (d : Class). Finds (IsOfClass d) (first ∷ body) found) e finds)
 
--- no token stands in nothing
+-- no token is in nothing
 pub nothing_found : (text : List ℕ) → length text ≡ 0 → Finds Is text None
 nothing_found [] e kind [] rest whole is = is
 nothing_found [] e kind (a ∷ word) rest whole is = cc whole

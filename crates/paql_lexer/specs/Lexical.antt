@@ -1,4 +1,4 @@
--- The lexical grammar: which bytes are a token, and which stand in the gaps between tokens.
+-- The lexical grammar: which bytes are a token, and which are in the gaps between tokens.
 -- In each relation the word is followed by the rest, which says whether the word could go on.
 use Rattle.std.specs.Prelude.{◌≡◌, ℕ, ◌+◌, ◌<◌, ◌≤◌, ◌⊎◌, Bool, not, ◌||◌, ◌==◌, if◌then◌else◌}
 use Rattle.std.specs.Prelude.{IsTrue, IsFalse, List, [], ◌∷◌, ◌++◌, length, Option, Some, None}
@@ -15,7 +15,7 @@ use Rattle.paql_lexer.specs.declared.gaps.Run.TheVariants as run
 use Rattle.paql_lexer.specs.declared.vocabulary.Kind.{Kind}
 use Rattle.paql_lexer.specs.declared.vocabulary.Kind.TheVariants as kinds
 
--- Nothing of this kind stands at the front of the text.
+-- Nothing of this kind is at the start of the text.
 abbrev pub NoneAt : (List ℕ → List ℕ → Type 0) → List ℕ → Type 0
 NoneAt Is text = (word rest : List ℕ) → text ≡ word ++ rest → ¬ Is word rest
 
@@ -24,12 +24,12 @@ abbrev pub AllIn : (ℕ → Bool) → List ℕ → Type 0
 AllIn test [] = Unit {0}
 AllIn test (byte ∷ bytes) = IsTrue (test byte) × AllIn test bytes
 
--- No byte that passes the test stands first.
+-- No byte that passes the test comes first.
 abbrev pub EndsRun : (ℕ → Bool) → List ℕ → Type 0
 EndsRun test [] = Unit {0}
 EndsRun test (byte ∷ bytes) = IsFalse (test byte)
 
--- The byte stands first.
+-- The byte comes first.
 abbrev pub BeginsWith : ℕ → List ℕ → Type 0
 BeginsWith first [] = ⊥
 BeginsWith first (byte ∷ bytes) = byte ≡ first
@@ -44,18 +44,18 @@ in_run run.Line byte = not (byte == 10)
 abbrev pub is_space : ℕ → Bool
 is_space byte = byte == 9 || byte == 10 || byte == 13 || byte == 32
 
--- A space, or a comment: `--` and what stands on the line behind it.
+-- A space, or a comment: `--` and what is on the line after it.
 abbrev pub IsPiece : List ℕ → List ℕ → Type 0
 IsPiece piece rest = ((byte : ℕ) × IsTrue (is_space byte) × (piece ≡ byte ∷ []))
     ⊎ ((line : List ℕ) × AllIn (in_run run.Line) line × (piece ≡ 45 ∷ (45 ∷ line))
     × EndsRun (in_run run.Line) rest)
 
--- The pieces follow one another, and no further one stands behind them.
+-- The pieces follow one another, and no further one comes after them.
 abbrev pub ArePieces : List (List ℕ) → List ℕ → Type 0
 ArePieces [] rest = NoneAt IsPiece rest
 ArePieces (piece ∷ pieces) rest = IsPiece piece (concat pieces ++ rest) × ArePieces pieces rest
 
--- All space and comments in front of the rest.
+-- All space and comments before the rest.
 abbrev pub IsGap : List ℕ → List ℕ → Type 0
 IsGap gap rest = (pieces : List (List ℕ)) × ArePieces pieces rest × (gap ≡ concat pieces)
 
@@ -87,12 +87,12 @@ pub record IsQuotedName (kind : Kind) (word rest : List ℕ) : Type 0 where
   pub quotes : word ≡ 34 ∷ (name ++ 34 ∷ [])
   pub meaning : kind ≡ kinds.QuotedName
 
--- A point and a digit stand first.
+-- A point and a digit come first.
 abbrev pub BeginsWithPlace : List ℕ → Type 0
 BeginsWithPlace [] = ⊥
 BeginsWithPlace (byte ∷ bytes) = (byte ≡ 46) × BeginsWithDigit bytes
 
--- Digits, and perhaps a point and digits, at most 30 digits, as many as stand there.
+-- Digits, and perhaps a point and digits, at most 30 digits, as many as are there.
 pub record IsNumber (kind : Kind) (word rest : List ℕ) : Type 0 where
   pub whole : List ℕ
   pub fraction : List ℕ
@@ -122,7 +122,7 @@ abbrev pub GoesOn : ℕ → List ℕ → ℕ → Type 0
 GoesOn byte rest len = (IsFalse (is_quote byte) × (len ≡ 1))
     ⊎ ((byte ≡ 39) × BeginsWith 39 rest × (len ≡ 2))
 
--- The content and its closing quote stand first.
+-- The content and its closing quote come first.
 abbrev pub ClosesBehind : List ℕ → List ℕ → Type 0
 ClosesBehind body content =
     (rest : List ℕ) × (body ≡ doubled content ++ 39 ∷ rest) × EndsRun is_quote rest
@@ -153,7 +153,7 @@ long_sign first second =
     (if first == 62 then Some kinds.GreaterOrEqual
     else (if first == 33 then Some kinds.NotEqual else None)) else None)
 
--- The sign of two bytes at the front of a text.
+-- The sign of two bytes at the start of a text.
 abbrev pub long_sign_at : List ℕ → Option Kind
 long_sign_at [] = None
 long_sign_at (first ∷ []) = None
@@ -171,7 +171,7 @@ abbrev pub EndsSign : List ℕ → List ℕ → Type 0
 EndsSign word [] = Unit {0}
 EndsSign word (byte ∷ bytes) = sign_of (word ++ byte ∷ []) ≡ None
 
--- A sign, the longest that stands there.
+-- A sign, the longest that is there.
 pub record IsSign (kind : Kind) (word rest : List ℕ) : Type 0 where
   pub sign : sign_of word ≡ Some kind
   pub longest : EndsSign word rest
@@ -189,12 +189,12 @@ IsOfClass class.Quote kind word rest = IsText kind word rest
 IsOfClass class.NameQuote kind word rest = IsQuotedName kind word rest
 IsOfClass class.Mark kind word rest = IsSign kind word rest
 
--- The word is a token of the kind, where the rest stands behind it.
+-- The word is a token of the kind, where the rest comes after it.
 abbrev pub Is : Kind → List ℕ → List ℕ → Type 0
 Is kind [] rest = ⊥
 Is kind (byte ∷ bytes) rest = IsOfClass (class_of byte) kind (byte ∷ bytes) rest
 
--- Of the tokens of some sort the one at the front of the text, as its kind and its length.
+-- Of the tokens of some sort the one at the start of the text, as its kind and its length.
 abbrev pub Finds : (Kind → List ℕ → List ℕ → Type 0) → List ℕ → Option (Kind × ℕ) → Type 0
 Finds IsSort text None = (kind : Kind) → NoneAt (IsSort kind) text
 Finds IsSort text (Some found) = (word rest : List ℕ) × IsSort found.0 word rest

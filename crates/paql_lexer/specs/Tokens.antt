@@ -6,7 +6,7 @@ use Rattle.paql_lexer.specs.declared.lexer.LexFault.{LexFault}
 use Rattle.paql_lexer.specs.declared.lexer.LexFault.TheVariants.{Lex, Memory}
 use Rattle.paql_lexer.specs.declared.vocabulary.Kind.{Kind}
 
--- From the place `at` on the text is these tokens, each behind a gap, then a gap, and then the
+-- From the place `at` on the text is these tokens, each after a gap, then a gap, and then the
 -- rest.
 abbrev pub Reaches : ℕ → List ℕ → List Token → List ℕ → Type 0
 Reaches at text [] rest = (gap : List ℕ) × IsGap gap rest × (text ≡ gap ++ rest)
@@ -18,7 +18,7 @@ Reaches at text (token ∷ tokens) rest = (gap word behind : List ℕ) × IsGap 
 abbrev pub IsTokens : List ℕ → List Token → Type 0
 IsTokens text tokens = Reaches 0 text tokens []
 
--- Behind some tokens and a gap no token begins at this place, though a byte stands there.
+-- After some tokens and a gap no token begins at this place, though a byte is there.
 pub record IsLexFault (text : List ℕ) (at : ℕ) : Type 0 where
   pub tokens : List Token
   pub rest : List ℕ

@@ -1,4 +1,4 @@
-//! The token at the front of a text, by its first byte.
+//! The token at the start of a text, by its first byte.
 ghost use Rattle.std.specs.Prelude.{◌≡◌, ◌↔◌, ℕ, ◌<◌, ◌≤◌, ◌++◌, ◌∷◌, [], List, length, map};
 ghost use Rattle.std.specs.Prelude.{IsTrue, IsUtf8, MatchOption};
 ghost use Rattle.std.specs.Str.{str_eq_ignore_ascii_case};
@@ -126,8 +126,8 @@ fn quoted_name(body: &[u8]) -> Option<Cut>
     Some((Kind::QuotedName, name.len() + 2))
 }
 
-/// The digits behind the point at the front of a text, where there are some, and what stands
-/// behind.
+/// The digits after the point at the start of a text, if there are some, and what comes
+/// after them.
 fn split_fraction(text: &[u8]) -> (&[u8], &[u8])
     requires { ¬ BeginsWithDigit text.now }
     ensures whole { text.now ≡ point_and result.0.now ++ result.1.now }
@@ -170,7 +170,7 @@ fn step_len(byte: u8, rest: &[u8]) -> usize
     if begins_with(b'\'', rest) { 2 } else { 0 }
 }
 
-/// How many bytes stand in front of the closing quote.
+/// How many bytes come before the closing quote.
 fn content_len(body: &[u8]) -> Option<usize>
     ensures { MatchOption result ((content : List ℕ) → ¬ lexical.ClosesBehind body.now content)
         (λ len. (content : List ℕ) × lexical.ClosesBehind body.now content
@@ -262,7 +262,7 @@ fn sign(text: &[u8]) -> Option<Cut>
     }
 }
 
-/// The token at the front of a text, where one begins there.
+/// The token at the start of a text, where one begins there.
 pub(crate) fn token_at(text: &[u8]) -> Option<Cut>
     ensures { lexical.Finds lexical.Is text.now result }
 {

@@ -1,4 +1,4 @@
-//! What stands between tokens: space and comments.
+//! What is between tokens: space and comments.
 ghost use Rattle.std.specs.Prelude.{◌≡◌, ℕ, ◌<◌, ◌++◌, ◌∷◌, List, length, MatchOption};
 ghost use Rattle.paql_lexer.specs.Lexical as lexical;
 
@@ -21,7 +21,7 @@ fn is_in_run(run: Run, byte: u8) -> bool
     }
 }
 
-/// The run at the front of a text, and what stands behind it.
+/// The run at the start of a text, and what comes after it.
 pub(crate) fn split_run(run: Run, text: &[u8]) -> (&[u8], &[u8])
     ensures whole { text.now ≡ result.0.now ++ result.1.now }
     ensures all { lexical.AllIn (lexical.in_run run) result.0.now }
@@ -41,7 +41,7 @@ fn is_space(byte: u8) -> bool
     byte == b'\t' || byte == b'\n' || byte == b'\r' || byte == b' '
 }
 
-/// What stands behind a space, or behind the bytes of a comment, at the front of a text.
+/// What comes after a space, or after the bytes of a comment, at the start of a text.
 fn skip_piece(text: &[u8]) -> Option<&[u8]>
     ensures { MatchOption result (lexical.NoneAt lexical.IsPiece text.now)
         (λ rest. (piece : List ℕ) × lexical.IsPiece piece rest.now
@@ -54,7 +54,7 @@ fn skip_piece(text: &[u8]) -> Option<&[u8]>
     }
 }
 
-/// What stands behind all space and comments at the front of a text.
+/// What comes after all space and comments at the start of a text.
 pub(crate) fn skip_gap(text: &[u8]) -> &[u8]
     ensures { (gap : List ℕ) × lexical.IsGap gap result.now × (text.now ≡ gap ++ result.now) }
 {

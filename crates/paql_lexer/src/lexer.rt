@@ -8,27 +8,27 @@ use crate::vocabulary::Kind;
 use std::alloc::Global;
 use thiserror::Error;
 
-/// A token, and the places in the text between which its bytes stand.
+/// A token, and the places in the text between which its bytes are.
 #[derive(Clone, Copy, Debug, PartialEq, Eq)]
 pub struct Token {
     pub kind: Kind,
     /// The place of its first byte.
     pub start: usize,
-    /// The place behind its last byte.
+    /// The place after its last byte.
     pub end: usize,
 }
 
 /// Why a text has no list of tokens.
 #[derive(Clone, Copy, Debug, PartialEq, Eq, Error)]
 pub enum LexFault {
-    /// No token begins at this place, and no token, space or comment in front of it reaches there.
+    /// No token begins at this place, and no token, space or comment before it reaches there.
     #[error("no token begins at {0}")]
     Lex(usize),
     #[error("out of memory")]
     Memory,
 }
 
-/// How many bytes a token mostly takes, with the gap in front of it.
+/// How many bytes a token mostly takes, with the gap before it.
 const BYTES_OF_A_TOKEN: usize = 4;
 
 /// The tokens of a text, without space and comments.

@@ -19,7 +19,7 @@ first_of : {T A : Type 0} (a : A) (o : Outcome T (List A)) → fold_front push (
 first_of a (Ok x) = ap (λ z. Ok (z, x.1)) (fold_push (a ∷ []) x.0)
 first_of a (Err e) = refl
 
--- Behind the first item stands the rest of the sum.
+-- After the first item comes the rest of the sum.
 pub begins_sum : (a : SumItem) (term : Parser Lexeme Term) (s : List Lexeme) → fold_front push (a ∷ []) (repeat (among sign_kinds) (read.next_item term) s) ≡ read.more_items a term s
 unfolding read.more_items
 begins_sum a term s = first_of a (repeat (among sign_kinds) (read.next_item term) s)

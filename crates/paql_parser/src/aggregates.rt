@@ -1,4 +1,4 @@
-//! Aggregates, and the sums, constraints and goals that they stand in. `package_name` is the name
+//! Aggregates, and the sums, constraints and goals that they are in. `package_name` is the name
 //! of the query's package, and `depth` is how many brackets and NOTs may be open in a condition.
 ghost use Rattle.std.specs.Prelude.{◌≡◌, true};
 ghost use Rattle.std.specs.Str.{bytes_eq};
@@ -261,7 +261,7 @@ fn term<'a>(
     single(alloc, depth, package_name, source)
 }
 
-/// A term, or a part where plain numbers may not stand.
+/// A term, or a part where plain numbers are not allowed.
 #[tactic(auto, unfolding(paql_grammar::specs::AggregateReading::part))]
 fn summand<'a>(
     alloc: Global,

@@ -61,7 +61,7 @@ fn filter(alloc: Global, depth: u32, source: Source<'_>) -> Result<(Pred, Source
     condition(alloc, depth, rest)
 }
 
-/// WHERE and its condition, where it stands there.
+/// WHERE and its condition, where it is there.
 fn filtered(
     alloc: Global,
     depth: u32,

@@ -30,7 +30,7 @@ struct Head {
     package_name: Text,
 }
 
-/// What stands behind FROM.
+/// What comes after FROM.
 #[derive(Drop)]
 struct Relation {
     table: Text,
@@ -46,7 +46,7 @@ struct Constraints {
     conjuncts: Items<Conjunct>,
 }
 
-/// What stands behind the constraints.
+/// What comes after the constraints.
 #[derive(Drop)]
 struct Ending {
     goal: Option<Goal>,
@@ -54,7 +54,7 @@ struct Ending {
     budget: Option<u64>,
 }
 
-/// A name, with AS in front of it or not.
+/// A name, with AS before it or not.
 #[tactic(auto, unfolding(paql_grammar::specs::QueryReading::named))]
 fn named<'a>(alloc: Global, source: Source<'a>) -> Result<(Text, Source<'a>), ReadError>
     ensures { Follows result read.named source.entry }

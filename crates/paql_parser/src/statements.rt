@@ -1,4 +1,4 @@
-//! All statements: the first token says which one stands there.
+//! All statements: the first token says which one is there.
 ghost use Rattle.std.specs.Prelude.{◌≡◌};
 ghost use Rattle.formal_grammar.specs.Parse.{Gives, all_of};
 ghost use Rattle.paql_grammar.specs.StatementReading as read;

@@ -140,7 +140,7 @@ abbrev item : Bool → Term → SumItem
 item minus of = record { minus = minus; term = of }
 
 module _ (term : Lang Lexeme Term) (package_name : List ℕ) (canonical_term : Canonical term (print.term package_name)) where
-  -- the first item, behind a minus or not
+  -- the first item, after a minus or not
   spells_first : (minus : Bool) (of : Term) → term (print.term package_name of) of → grammar.first_item term (print.first_item package_name (item minus of)) (item minus of)
   spells_first true of d = record {
     front = spelled kinds.Minus ∷ [];
@@ -164,7 +164,7 @@ module _ (term : Lang Lexeme Term) (package_name : List ℕ) (canonical_term : C
       let x = t.second in
       subst (λ (z : SumItem). grammar.first_item term (print.first_item package_name z) z) (sym x.second.1) (spells_first t.value x.value (canonical_term x.front x.value x.first))
 
-  -- a further item, behind its sign
+  -- a further item, after its sign
   spells_next : (minus : Bool) (of : Term) → term (print.term package_name of) of → grammar.next_item term (print.next_item package_name (item minus of)) (item minus of)
   spells_next true of d = record {
     front = spelled kinds.Minus ∷ [];

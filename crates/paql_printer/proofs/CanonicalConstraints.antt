@@ -57,7 +57,7 @@ module _ (sum : Lang Lexeme (List SumItem)) (package_name : List ℕ) (canonical
         whole = refl;
       }))
 
-  -- what stands behind an average
+  -- what comes after an average
   abbrev average_rest : ColumnName → Lang Lexeme Conjunct
   average_rest of = grammar.average_between of or grammar.average_compared of
 

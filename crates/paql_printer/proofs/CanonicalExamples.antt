@@ -63,12 +63,12 @@ prints_keyword = refl
 abbrev is_text : List ℕ → List ℕ → Held
 is_text column text = held (Pred-F.Compare (bare column) ops.Eq (operands.Lit (lits.Text text)))
 
--- an OR in an AND stands in brackets, and so does an AND behind NOT
+-- an OR in an AND is in brackets, and so does an AND after NOT
 prints_brackets : spaced (held (Pred-F.And (is_text (codes "a") (codes "x") ∷ (held (Pred-F.Or (is_text (codes "b") (codes "it's") ∷ (held (Pred-F.Not (held (Pred-F.And (is_text (codes "c") (codes "") ∷ (is_text (codes "d") (codes "y") ∷ []))))) ∷ []))) ∷ [])))).lexemes ≡ codes "a = 'x' AND (b = 'it''s' OR NOT (c = '' AND d = 'y'))"
 unfolding word_kind
 prints_brackets = refl
 
--- an AND in an OR doesn't, nor does a NOT behind NOT
+-- an AND in an OR doesn't, nor does a NOT after NOT
 prints_no_brackets : spaced (held (Pred-F.Or (held (Pred-F.And (is_text (codes "a") (codes "x") ∷ (is_text (codes "b") (codes "y") ∷ []))) ∷ (held (Pred-F.Not (held (Pred-F.Not (is_text (codes "c") (codes "z"))))) ∷ [])))).lexemes ≡ codes "a = 'x' AND b = 'y' OR NOT NOT c = 'z'"
 unfolding word_kind
 prints_no_brackets = refl

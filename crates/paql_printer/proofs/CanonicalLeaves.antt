@@ -20,11 +20,11 @@ use Rattle.paql_printer.specs.Canonical.{Canonical}
 pub spells_word : (kind : Kind) → word kind (spelled kind ∷ []) tt
 spells_word kind = (spelled kind, refl, true_same the_type kind kind refl)
 
--- A word, and what stands behind it.
+-- A word, and what comes after it.
 pub behind_word : {A : Type 0} (kind : Kind) {q : Lang Lexeme A} {rest : List Lexeme} {a : A} → q rest a → Then (word kind) (λ _. q) (spelled kind ∷ rest) a
 behind_word kind {rest = rest} second = record { front = spelled kind ∷ []; back = rest; value = tt; first = spells_word kind; second = second; whole = refl }
 
--- A part, and a closing word behind it.
+-- A part, and a closing word after it.
 pub before_word : {A B : Type 0} (make : A → B) (kind : Kind) {p : Lang Lexeme A} (front : List Lexeme) (a : A) → p front a → Then p (λ x. word kind >> gives (make x)) (front ++ spelled kind ∷ []) (make a)
 before_word make kind front a first = record { front = front; back = spelled kind ∷ []; value = a; first = first; second = behind_word kind (refl, refl); whole = refl }
 
@@ -47,7 +47,7 @@ canonical_many print canonical w (a ∷ later) t = (print a, flat_map print late
 
 -- ---- names
 
--- what stands between quotes
+-- what is between quotes
 inside_quotes : (first last : ℕ) (bytes : List ℕ) → inside (first ∷ (bytes ++ last ∷ [])) ≡ bytes
 inside_quotes first last bytes =
     let e : suc (length (bytes ++ last ∷ [])) - 2 ≡ length bytes = omega (arith, length-append bytes (last ∷ [])) in
@@ -66,7 +66,7 @@ name_shown word = shown_either (sameb the_type (word_kind word) kinds.Name) word
 pub spells_name : (word : List ℕ) → name (print.name word ∷ []) word
 spells_name word = (print.name word, refl, name_shown word)
 
--- A name, and what stands behind it.
+-- A name, and what comes after it.
 pub behind_name : {A : Type 0} (word : List ℕ) {q : List ℕ → Lang Lexeme A} {rest : List Lexeme} {a : A} → q word rest a → Then name q (print.name word ∷ rest) a
 behind_name word {rest = rest} second = record { front = print.name word ∷ []; back = rest; value = word; first = spells_name word; second = second; whole = refl }
 

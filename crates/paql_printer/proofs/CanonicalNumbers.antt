@@ -46,7 +46,7 @@ no_point byte digit = decided (byte == 46) refl
     decided true e = absurd (no_digit_at_point (46 ∷ []) (subst (λ (z : ℕ). digit_value z < 10) ((Decides-eqb byte 46).0 e) digit))
     decided false e = refl
 
--- what stands before the point, and behind it
+-- what comes before the point, and after it
 before : (whole fraction : List ℕ) → AllDigits 10 whole → before_point (whole ++ point_and fraction) ≡ whole
 before [] [] all = refl
 before [] (digit ∷ digits) all = refl
@@ -107,7 +107,7 @@ reads_digits minus digits number scale all value more shortest =
 
 -- ---- numbers
 
--- A number is shown by its lexeme, behind a minus where it is below zero.
+-- A number is shown by its lexeme, after a minus where it is below zero.
 pub number_shown : (number : Scaled) → number_of (is_negative number.mant) (print.number number) ≡ Some number
 number_shown number =
     let magnitude = unsigned_abs number.mant in
@@ -136,7 +136,7 @@ passed : {A : Type 0} (b : Bool) (o : Option A) (a : A) → (if b then o else No
 passed true o a e = e
 passed false o a e = absurd (not_none (sym e))
 
--- a number that no minus stands before isn't below zero
+-- a number that no minus comes before isn't below zero
 not_negative : (t : Lexeme) (number : Scaled) → number_of false t ≡ Some number → is_negative number.mant ≡ false
 not_negative t number e =
     let whole = before_point t.bytes in

@@ -27,7 +27,7 @@ use Rattle.paql_printer.proofs.CanonicalConstraints.{canonical_conjunct, canonic
 spells_bare : (of : List ℕ) → grammar.named (lexeme.name of ∷ []) of
 spells_bare of = record { front = []; back = lexeme.name of ∷ []; value = None; first = inr (refl, refl); second = spells_name of; whole = refl }
 
--- a name behind AS
+-- a name after AS
 spells_named : (of : List ℕ) → grammar.named (spelled kinds.As ∷ (lexeme.name of ∷ [])) of
 spells_named of = record {
   front = spelled kinds.As ∷ [];

@@ -1,4 +1,4 @@
--- Which bytes may stand behind a token.
+-- Which bytes may comes after a token.
 use Rattle.std.proofs.Common.{◌≡◌, ℕ, ◌==◌, ◌<◌, Bool, true, false, ◌||◌, List, [], ◌∷◌, ◌++◌, Some, None, refl, arith}
 use Rattle.std.specs.Char.{is_ascii_alphanumeric, is_ascii_digit, digit_value}
 use Rattle.std.proofs.lemmas.Bool.Decides.{nat_tests}
@@ -44,7 +44,7 @@ stays_by false false true double_quote kind word rest byte bytes separates point
 stays_by false false false true kind word rest byte bytes separates point is = record { name = is.name; is_word = is.is_word; quotes = is.quotes; meaning = is.meaning }
 stays_by false false false false kind word rest byte bytes separates point is = record { sign = is.sign; longest = sign_ends byte separates kind word is.sign }
 
--- a token stays one in front of such a byte, where no point stands behind a number
+-- a token stays one before such a byte, where no point comes after a number
 stays : (kind : Kind) (word rest : List ℕ) (byte : ℕ) (bytes : List ℕ) → Separates byte → (kind ≡ kinds.Number → byte ≡ 46 → ⊥) → Is kind word rest → Is kind word (byte ∷ bytes)
 stays kind [] rest byte bytes separates point is = is
 stays kind (a ∷ word) rest byte bytes separates point is =
@@ -66,7 +66,7 @@ before_right_paren kind word rest bytes is = stays kind word rest 41 bytes (reco
 pub before_comma : StaysBefore 44
 before_comma kind word rest bytes is = stays kind word rest 44 bytes (record { word = refl; digit = λ d. omega arith; quote = refl; equal = refl; greater = refl }) (λ e f. omega arith) is
 
--- what is no number stays a token in front of a point
+-- what is no number stays a token before a point
 pub before_dot : (kind : Kind) (word rest bytes : List ℕ) → (kind ≡ kinds.Number → ⊥) → Is kind word rest → Is kind word (46 ∷ bytes)
 before_dot kind word rest bytes none is = stays kind word rest 46 bytes (record { word = refl; digit = λ d. omega arith; quote = refl; equal = refl; greater = refl }) (λ e f. none e) is
 
@@ -105,7 +105,7 @@ alone kind byte sign none rest = record { sign = sign; longest = ends rest }
     ends [] = tt
     ends (b ∷ s) = none b
 
--- a point, a bracket and a minus are tokens whatever stands behind them
+-- a point, a bracket and a minus are tokens whatever comes after them
 pub dot_stays : (rest : List ℕ) → Is kinds.Dot (46 ∷ []) rest
 dot_stays rest = alone kinds.Dot 46 refl (no_longer 46 refl refl refl) rest
 

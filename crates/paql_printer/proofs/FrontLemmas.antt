@@ -1,4 +1,4 @@
--- What the bytes of a front are behind more bytes and more lexemes.
+-- What the bytes of a prefix are after more bytes and more lexemes.
 use Rattle.std.proofs.Common.{◌≡◌, ℕ, ◌+◌, ◌<◌, length, take, get_or, Bool, true, false, not, ◌||◌, ◌&&◌, if◌then◌else◌, List, [], ◌∷◌, ◌++◌, ◌==◌, refl, sym, ap, ◌∙◌, append_assoc, append-nil}
 use Rattle.std.proofs.lemmas.List.{take_more}
 use Rattle.paql_lexer.specs.declared.vocabulary.Kind.{Kind}
@@ -58,7 +58,7 @@ with_space : (touching : Bool) (front bytes later : List ℕ) → ((if touching 
 with_space true front bytes later = append_assoc front bytes later
 with_space false front bytes later = append_assoc (front ++ 32 ∷ []) bytes later ∙ append_assoc front (32 ∷ []) (bytes ++ later)
 
--- the bytes behind more lexemes
+-- the bytes after more lexemes
 pub written_bytes : (front : Front) (lexemes : List Lexeme) → (written front lexemes).bytes ≡ front.bytes ++ spaced_behind (of_kind front.before) (of_kind front.last) lexemes
 unfolding put begun more
 written_bytes front [] = sym (append-nil front.bytes)
@@ -68,7 +68,7 @@ written_bytes front (next ∷ later) =
     ∙ (ap (λ (bytes : List ℕ). ((if touching then front.bytes else front.bytes ++ 32 ∷ []) ++ next.bytes) ++ bytes) (spaced_kinds (of_kind front.last) next later)
     ∙ with_space touching front.bytes next.bytes (spaced_behind (of_kind front.last) next later))
 
--- a minus that stands first is a sign
+-- a minus that comes first is a sign
 first_minus : (kind : Kind) → (is kinds.Minus (of_kind kind) && not (ends_term (of_kind kind))) ≡ (is kinds.Minus (of_kind kind) && true)
 first_minus kinds.Minus = refl
 first_minus _ = refl

@@ -12,7 +12,7 @@ use Rattle.paql_printer.specs.Print.{behind, listed, term, sum, first_item, next
 use Rattle.paql_printer.specs.Fronts.{Front, put, written}
 use Rattle.paql_printer.specs.Parts.{separator, sign}
 
--- two runs of lexemes, one behind the other
+-- two runs of lexemes, one after the other
 pub written_append : (front : Front) (lexemes later : List Lexeme) → written (written front lexemes) later ≡ written front (lexemes ++ later)
 written_append front lexemes later = sym (fold-append put front lexemes later)
 
@@ -25,11 +25,11 @@ flat_more print parts at d within =
 not_zero : (n : ℕ) → (suc n == 0) ≡ false
 not_zero n = grind (arith, nat_tests)
 
--- the word stands in front of each part but the first
+-- the word comes before each part but the first
 separator_later : (kind : Kind) (at : ℕ) → separator kind (suc at) ≡ spelled kind ∷ []
 separator_later kind at = ap (λ (first : Bool). if first then [] else spelled kind ∷ []) (not_zero at)
 
--- one part more, behind the word that separates it
+-- one part more, after the word that separates it
 pub listed_more : {A : Type 0} (kind : Kind) (print : A → List Lexeme) (parts : List A) (at : ℕ) (d : A) → at < length parts → listed kind print (take (suc at) parts) ≡ listed kind print (take at parts) ++ (separator kind at ++ print (get_or parts at d))
 listed_more kind print [] at d within = absurd (omega arith)
 listed_more kind print (first ∷ later) zero d within = append-nil (print first)
@@ -59,7 +59,7 @@ next_is : (package_name : List ℕ) (item : SumItem) (minus : Bool) (at : ℕ) �
 next_is package_name item true at = refl
 next_is package_name item false at = ap (λ (word : List Lexeme). word ++ term package_name item.term) (sym (separator_later kinds.Plus at))
 
--- one term more, behind its sign
+-- one term more, after its sign
 sum_more : (package_name : List ℕ) (items : List SumItem) (at : ℕ) (d : SumItem) → at < length items → sum package_name (take (suc at) items) ≡ sum package_name (take at items) ++ (sign at (get_or items at d).minus ++ term package_name (get_or items at d).term)
 sum_more package_name [] at d within = absurd (omega arith)
 sum_more package_name (first ∷ later) zero d within = append-nil (first_item package_name first) ∙ first_is package_name first first.minus

@@ -128,7 +128,7 @@ minus_is = mark_is kinds.Minus 45 (record {
 pub no_longer : (first : ℕ) → (first == 60) ≡ false → (first == 62) ≡ false → (first == 33) ≡ false → (b : ℕ) → long_sign first b ≡ None
 no_longer first less greater other b = grind (arith, nat_tests)
 
--- a minus in front is the whole token
+-- a minus before it is the whole token
 pub minus_alone : (kind : Kind) (bytes rest : List ℕ) → Is kind (45 ∷ bytes) rest → (kind ≡ kinds.Minus) × (bytes ≡ [])
 minus_alone kind [] rest is = let e : Some kinds.Minus ≡ Some kind = is.sign in (cc, refl)
 minus_alone kind (b ∷ []) rest is = let e : long_sign 45 b ≡ Some kind = is.sign in let none = no_longer 45 refl refl refl b in cc (none, e)

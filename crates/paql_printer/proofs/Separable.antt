@@ -1,10 +1,10 @@
--- Lexemes of which no two become one where no space stands between them.
+-- Lexemes of which no two become one where no space is between them.
 use Rattle.std.proofs.Common.{ℕ, ◌&&◌, IsFalse, List, [], ◌∷◌}
 use Rattle.paql_lexer.specs.Lexical.{Is}
 use Rattle.paql_lexer.specs.declared.vocabulary.Kind.TheVariants as kinds
 use Rattle.paql_grammar.specs.Lexemes.{Lexeme, is}
 
--- The bytes are a token of the kind, in front of some rest.
+-- The bytes are a token of the kind, before some rest.
 abbrev pub IsToken : Lexeme → Type 0
 IsToken t = (rest : List ℕ) × Is t.kind t.bytes rest
 

@@ -1,4 +1,4 @@
--- Lists of lexemes of which no two become one, wherever such lists stand one behind the other.
+-- Lists of lexemes of which no two become one, wherever such lists come one after the other.
 use Rattle.std.proofs.Common.{◌≡◌, inl, inr, Bool, true, false, ◌&&◌, IsFalse, List, [], ◌∷◌, ◌++◌, flat_map, Option, refl, sym, subst}
 use Rattle.paql_lexer.specs.declared.vocabulary.Kind.{Kind}
 use Rattle.paql_lexer.specs.declared.vocabulary.Kind.TheVariants as kinds
@@ -10,22 +10,22 @@ use Rattle.paql_printer.proofs.Separable.{IsToken, AreTokens, Apart, Separable}
 
 -- ---- sound lists
 
--- Behind the lexeme stands one that stays apart from it, or none where it is no minus.
+-- After the lexeme comes one that stays apart from it, or none where it is no minus.
 abbrev pub Precedes : Lexeme → List Lexeme → Type 0
 Precedes t [] = IsFalse (is kinds.Minus t)
 Precedes t (next ∷ later) = Apart t next
 
--- Tokens, each of which precedes what stands behind it.
+-- Tokens, each of which precedes what comes after it.
 abbrev pub Chained : List Lexeme → Type 0
 Chained [] = Unit {0}
 Chained (t ∷ later) = IsToken t × Precedes t later × Chained later
 
--- No point stands first.
+-- No point comes first.
 abbrev pub NoPoint : List Lexeme → Type 0
 NoPoint [] = Unit {0}
 NoPoint (t ∷ later) = IsFalse (is kinds.Dot t)
 
--- Tokens of which no two become one, also where another such list stands in front or behind.
+-- Tokens of which no two become one, also where another such list comes before it or after.
 pub record Sound (w : List Lexeme) : Type 0 where
   pub first : NoPoint w
   pub chained : Chained w
@@ -34,13 +34,13 @@ pub record Sound (w : List Lexeme) : Type 0 where
 abbrev pub Sounds : {A : Type 0} → Lang Lexeme A → (A → List Lexeme) → Type 0
 Sounds {A = A} L print = (w : List Lexeme) (a : A) → L w a → AreTokens w → Sound (print a)
 
--- ---- one list behind another
+-- ---- one list after another
 
 and_false : (b : Bool) → (b && false) ≡ false
 and_false true = refl
 and_false false = refl
 
--- a lexeme that is no minus precedes each list without a point in front
+-- a lexeme that is no minus precedes each list without a point before it
 precedes : (t : Lexeme) (w : List Lexeme) → IsFalse (is kinds.Minus t) → NoPoint w → Precedes t w
 precedes t [] minus point = minus
 precedes t (next ∷ later) minus point = record { number = rw point (and_false (is kinds.Number t)); minus = rw minus refl }
@@ -60,7 +60,7 @@ sound_none = record { first = tt; chained = tt }
 pub sound_append : (v w : List Lexeme) → Sound v → Sound w → Sound (v ++ w)
 sound_append v w p q = record { first = first_append v w p.first q.first; chained = chained_append v w p.chained q.first q.chained }
 
--- A token that is no minus and no point stands in front of a sound list.
+-- A token that is no minus and no point comes before a sound list.
 pub record Plain (t : Lexeme) : Type 0 where
   pub token : IsToken t
   pub minus : IsFalse (is kinds.Minus t)
@@ -72,7 +72,7 @@ sound_behind t w plain p = record { first = plain.point; chained = (plain.token,
 pub sound_one : (t : Lexeme) → Plain t → Sound (t ∷ [])
 sound_one t plain = sound_behind t [] plain sound_none
 
--- A sound list in front of a last lexeme.
+-- A sound list before a last lexeme.
 pub sound_before : (w : List Lexeme) (t : Lexeme) → Sound w → Plain t → Sound (w ++ t ∷ [])
 sound_before w t p plain = sound_append w (t ∷ []) p (sound_one t plain)
 
@@ -91,7 +91,7 @@ pub tokens_split : (v w : List Lexeme) → AreTokens (v ++ w) → AreTokens v ×
 tokens_split [] w all = (tt, all)
 tokens_split (t ∷ v) w all = let later = tokens_split v w all.1 in ((all.0, later.0), later.1)
 
--- Those of the text in front, and those of the text behind it.
+-- Those of the text before it, and those of the text after it.
 pub in_front : {A B : Type 0} {p : Lang Lexeme A} {q : A → Lang Lexeme B} {w : List Lexeme} {b : B} (d : Then p q w b) → AreTokens w → AreTokens d.front
 in_front d all = (tokens_split d.front d.back (subst AreTokens d.whole all)).0
 

@@ -111,7 +111,7 @@ minus_precedes package_name (terms.Number value) = record { number = refl; minus
 minus_precedes package_name (terms.Agg (Some times) of) = record { number = refl; minus = refl }
 minus_precedes package_name (terms.Agg None of) = behind_minus package_name of.plain of.only
 
--- a minus in front of a term
+-- a minus before a term
 behind_a_minus : (package_name : List ℕ) (of : Term) → Sound (print.term package_name of) → Sound (spelled kinds.Minus ∷ print.term package_name of)
 behind_a_minus package_name of p = record { first = refl; chained = (minus_token, minus_precedes package_name of, p.chained) }
 

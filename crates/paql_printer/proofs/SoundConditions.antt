@@ -69,7 +69,7 @@ operator_plain ops.Le = plain_word kinds.LessOrEqual refl
 operator_plain ops.Gt = plain_word kinds.Greater refl
 operator_plain ops.Ge = plain_word kinds.GreaterOrEqual refl
 
--- A word in front of a sound list.
+-- A word before a sound list.
 pub word_behind : (kind : Kind) (w : List Lexeme) → Plain (spelled kind) → Sound w → Sound (behind kind w)
 word_behind kind w plain p = sound_behind (spelled kind) w plain p
 

@@ -30,7 +30,7 @@ sound_ends w both t all =
     let of_low = in_back t all in
     subst (λ (z : Scaled × Scaled). Sound (print.ends z.0 z.1)) (sym high.second.1) (sound_between low.value high.value (sound_signed low.front low.value low.first (in_front low of_low)) (sound_signed high.front high.value high.first (in_front high (in_back low.second (in_back low of_low)))))
 
--- an operator, and what stands behind it
+-- an operator, and what comes after it
 behind_operator : (op : CmpOp) (rest : List Lexeme) → Sound rest → Sound (behind (print.operator op) rest)
 behind_operator op rest p = sound_behind (spelled (print.operator op)) rest (operator_plain op) p
 

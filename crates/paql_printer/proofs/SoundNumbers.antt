@@ -172,7 +172,7 @@ sound_number minus w value d all = sound_one (print.number value) (plain_number 
 pub minus_token : IsToken (spelled kinds.Minus)
 minus_token = spelled_token kinds.Minus refl
 
--- a number, behind a minus or not
+-- a number, after a minus or not
 behind_sign : (b : Bool) (value : Scaled) → Plain (print.number value) → Sound (if b then spelled kinds.Minus ∷ (print.number value ∷ []) else print.number value ∷ [])
 behind_sign true value plain = record { first = refl; chained = (minus_token, record { number = refl; minus = refl }, (plain.token, refl, tt)) }
 behind_sign false value plain = sound_one (print.number value) plain

@@ -163,7 +163,7 @@ bare_name kind [] rest e t = absurd t
 bare_name kind (byte ∷ bytes) rest e t =
     of_class (IsWord (byte ∷ bytes)) kind byte bytes rest t (λ x. x.is_word) (λ x. absurd (cc (e, x.meaning))) (λ x. absurd (cc (e, x.meaning))) (λ x. absurd (cc (e, x.meaning))) (λ x. absurd (no_sign kind (byte ∷ bytes) rest (rw e refl) x))
 
--- what stands between quotes
+-- what is between quotes
 inside_quotes : (first last : ℕ) (bytes : List ℕ) → inside (first ∷ (bytes ++ last ∷ [])) ≡ bytes
 inside_quotes first last bytes =
     let e : suc (length (bytes ++ last ∷ [])) - 2 ≡ length bytes = omega (arith, length-append bytes (last ∷ [])) in
@@ -237,7 +237,7 @@ content_shown value =
     let same : print.quoted value ≡ spelled.0 = cc (spelled.1) in
     ap content_of same ∙ spelled.2
 
--- the content of a text is written as it stands there
+-- the content of a text is written as it is there
 text_again : (t : Lexeme) (value rest : List ℕ) (text : IsText t.kind t.bytes rest) → Some (undoubled false (inside t.bytes)) ≡ Some value → value ≡ text.content
 text_again t value rest text e =
     sym (some_is e) ∙ some_is (ap (λ (z : List ℕ). Some (undoubled false (inside z))) text.quotes ∙ content_shown text.content)

@@ -11,12 +11,12 @@ use Rattle.paql_printer.proofs.Pieces.{gap_of, gap_is, gap_and, gap_at_end}
 use Rattle.paql_printer.proofs.TextTokens.{word_at}
 use Rattle.paql_printer.proofs.Touching.{in_place, no_piece_at}
 
--- From the place on the text is cut into tokens, which are these lexemes of the text with what stands in front.
+-- From the place on the text is cut into tokens, which are these lexemes of the text with what comes before.
 abbrev IsCut : ℕ → List ℕ → List Lexeme → Type 0
 IsCut at text later = (tokens : List Token) × Reaches at text tokens []
     × ((front : List ℕ) → length front ≡ at → lexemes (front ++ text) tokens ≡ later)
 
--- the token at the end of some front
+-- the token at the end of some prefix
 abbrev token_at : Kind → ℕ → List ℕ → Token
 token_at kind start word = record { kind = kind; start = start; end = start + length word }
 
@@ -24,7 +24,7 @@ token_at kind start word = record { kind = kind; start = start; end = start + le
 lexeme_at : (t : Lexeme) (front more : List ℕ) (start : ℕ) → length front ≡ start → lexeme (front ++ (t.bytes ++ more)) (token_at t.kind start t.bytes) ≡ t
 lexeme_at t front more start place = ap (λ (w : List ℕ). record { kind = t.kind; bytes = w }) (word_at front t.bytes more start (start + length t.bytes) place refl)
 
--- one lexeme in front of a cut text
+-- one lexeme before a cut text
 cut_more : (at : ℕ) (gap : List ℕ) (t : Lexeme) (more : List ℕ) (later : List Lexeme) (text : List ℕ) → text ≡ gap ++ (t.bytes ++ more) → IsGap gap (t.bytes ++ more) → Is t.kind t.bytes more → IsCut (at + length gap + length t.bytes) more later → IsCut at text (t ∷ later)
 cut_more at gap t more later text whole is_gap is cut =
     (token_at t.kind (at + length gap) t.bytes ∷ cut.0, (gap, t.bytes, more, is_gap, is, whole, refl, refl, cut.1), λ front place. shown front place)

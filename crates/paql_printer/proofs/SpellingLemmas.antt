@@ -1,4 +1,4 @@
--- Signs and keywords stand in one table, and a name is spelled as its kind says.
+-- Signs and keywords are in one table, and a name is spelled as its kind says.
 use Rattle.std.proofs.Common.{◌≡◌, ◌==◌, length, ℕ, Bool, true, false, if◌then◌else◌, List, [], ◌∷◌, ◌++◌, refl, sym, ap}
 use Rattle.paql_lexer.specs.Keywords.{keywords}
 use Rattle.paql_lexer.specs.declared.vocabulary.Kind.{Kind}

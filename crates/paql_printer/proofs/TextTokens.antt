@@ -7,13 +7,13 @@ use Rattle.paql_lexer.specs.declared.lexer.Token.{Token}
 use Rattle.paql_grammar.specs.Lexemes.{lexeme, lexemes}
 use Rattle.paql_printer.proofs.Separable.{AreTokens}
 
--- the word behind a front is taken out by its places
+-- the word after a prefix is taken out by its places
 pub word_at : (front word more : List ℕ) (start end : ℕ) → length front ≡ start → end ≡ start + length word → take (end - start) (drop start (front ++ (word ++ more))) ≡ word
 word_at front word more start end place past =
     let len : length word ≡ end - start = omega arith in
     ap (λ (w : List ℕ). take (end - start) w) (drop_at front (word ++ more) start place) ∙ take_at word more (end - start) len
 
--- the lexemes of a text behind some front are tokens
+-- the lexemes of a text after some prefix are tokens
 tokens_behind : (tokens : List Token) (at : ℕ) (front text rest : List ℕ) → length front ≡ at → Reaches at text tokens rest → AreTokens (lexemes (front ++ text) tokens)
 tokens_behind [] at front text rest place reaches = tt
 tokens_behind (token ∷ tokens) at front text rest place (gap, word, more, is_gap, is, whole, start, past, later) =

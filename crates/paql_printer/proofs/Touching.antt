@@ -1,4 +1,4 @@
--- Each of the lexemes that stay apart is a token in its place in the spaced text, and no gap goes on in front of it.
+-- Each of the lexemes that stay apart is a token in its place in the spaced text, and no gap goes on before it.
 use Rattle.std.proofs.Common.{◌≡◌, ℕ, Bool, true, false, ◌||◌, ◌&&◌, not, if◌then◌else◌, List, [], ◌∷◌, ◌++◌, refl, sym, ◌∙◌, subst, arith}
 use Rattle.std.proofs.lemmas.Bool.{both_ways, and_from, and_parts}
 use Rattle.paql_lexer.specs.Lexical.{NoneAt, BeginsWith, IsPiece, Is}
@@ -26,7 +26,7 @@ last_alone kind byte bytes stays t token of rest =
     let word = is_byte kind byte bytes t token of in
     subst (λ (w : List ℕ). Is t.kind w rest) (sym word) (subst (λ (k : Kind). Is k (byte ∷ []) rest) (sym (only kind t of)) (stays rest))
 
--- a token in front of a sign that goes on none
+-- a token before a sign that goes on none
 next_apart : (kind : Kind) (byte : ℕ) → ((word rest : List ℕ) → Is kind word rest → word ≡ byte ∷ []) → StaysBefore byte → (t next : Lexeme) (more : List ℕ) → IsToken t → IsToken next → is kind next ≡ true → Is t.kind t.bytes (next.bytes ++ more)
 next_apart kind byte bytes before t next more token next_token of =
     subst (λ (w : List ℕ). Is t.kind t.bytes (w ++ more)) (sym (is_byte kind byte bytes next next_token of)) (before t.kind t.bytes token.0 more token.1)
@@ -41,7 +41,7 @@ by_either : {P : Type 0} (a b : Bool) → (a ≡ true → P) → (b ≡ true →
 by_either true b left right e = left refl
 by_either false b left right e = right e
 
--- a token in front of one that it touches
+-- a token before one that it touches
 touching : (before t next : Lexeme) (more : List ℕ) → IsToken t → IsToken next → Apart t next → touches before t next ≡ true → Is t.kind t.bytes (next.bytes ++ more)
 touching before t next more token next_token apart =
     by_either (is kinds.Dot t) _ (λ of. last_alone kinds.Dot 46 dot_is dot_stays t token of (next.bytes ++ more))
@@ -53,7 +53,7 @@ touching before t next more token next_token apart =
     (λ of. next_apart kinds.LeftParen 40 left_paren_is before_left_paren t next more token next_token (and_parts (is kinds.LeftParen next) (calls t) of).0)
     (λ of. last_alone kinds.Minus 45 minus_is minus_stays t token (and_parts (is kinds.Minus t) (not (ends_term before)) of).0 (next.bytes ++ more)))))))
 
--- a token in front of the next lexeme, by whether they touch
+-- a token before the next lexeme, by whether they touch
 in_front : (touch : Bool) (before t next : Lexeme) (more : List ℕ) → IsToken t → IsToken next → Apart t next → touches before t next ≡ touch → Is t.kind t.bytes ((if touch then next.bytes else 32 ∷ next.bytes) ++ more)
 in_front true before t next more token next_token apart touch = touching before t next more token next_token apart touch
 in_front false before t next more token next_token apart touch = before_space t.kind t.bytes token.0 (next.bytes ++ more) token.1
@@ -73,7 +73,7 @@ minus_from_first t more token begins = by_bytes t.bytes begins token.1
     by_bytes [] begins here = absurd here
     by_bytes (first ∷ bytes) begins here = passes_test kinds.Minus t (minus_alone t.kind bytes token.0 (subst (λ (n : ℕ). Is t.kind (n ∷ bytes) token.0) begins here)).0
 
--- no minus stands behind a minus
+-- no minus comes after a minus
 no_minus : (touch : Bool) (t next : Lexeme) (more : List ℕ) → t.kind ≡ kinds.Minus → IsToken next → Apart t next → BeginsWith 45 ((if touch then next.bytes else 32 ∷ next.bytes) ++ more) → ⊥
 no_minus true t next more minus next_token apart begins =
     both_ways _ apart.minus (and_from (is kinds.Minus t) (is kinds.Minus next) (passes_test kinds.Minus t minus) (minus_from_first next more next_token begins))
@@ -83,7 +83,7 @@ no_minus_behind : (before t : Lexeme) (later : List Lexeme) → t.kind ≡ kinds
 no_minus_behind before t [] minus apart separable begins = begins
 no_minus_behind before t (next ∷ later) minus apart separable begins = no_minus (touches before t next) t next (spaced_behind t next later) minus separable.0 apart begins
 
--- no piece stands where a lexeme does
+-- there is no piece where a lexeme does
 pub no_piece_at : (before t : Lexeme) (later : List Lexeme) → IsToken t → ApartFrom t later → Separable later → NoneAt IsPiece (t.bytes ++ spaced_behind before t later)
 no_piece_at before t later token apart separable = by_bytes t.bytes token.1
   where

@@ -1,5 +1,5 @@
 -- Private: the printer: the text that is written so far.
--- The front of a text that is being written.
+-- The prefix of a text that is being written.
 use Rattle.std.specs.Prelude.{◌≡◌, ℕ, if◌then◌else◌, List, [], ◌∷◌, ◌++◌, fold, Result, OnOk}
 use Rattle.paql_lexer.specs.declared.vocabulary.Kind.{Kind}
 use Rattle.paql_lexer.specs.declared.vocabulary.Kind.TheVariants as kinds
@@ -12,7 +12,7 @@ pub record Front : Type 0 where
   pub before : Kind
   pub last : Kind
 
--- Before the first lexeme, which has no space in front of it, as behind a bracket.
+-- Before the first lexeme, which has no space before it, as after a bracket.
 abbrev pub start : Front
 start = record { bytes = []; before = kinds.LeftParen; last = kinds.LeftParen }
 
@@ -20,7 +20,7 @@ start = record { bytes = []; before = kinds.LeftParen; last = kinds.LeftParen }
 abbrev pub of_kind : Kind → Lexeme
 of_kind kind = record { kind = kind; bytes = [] }
 
--- A lexeme of this kind begins, behind a space where it doesn't touch the last one.
+-- A lexeme of this kind begins, after a space where it doesn't touch the last one.
 unfoldable pub begun : Front → Kind → Front
 begun front kind = record {
   bytes = if touches (of_kind front.before) (of_kind front.last) (of_kind kind) then front.bytes
@@ -41,6 +41,6 @@ put front next = more (begun front next.kind) next.bytes
 abbrev pub written : Front → List Lexeme → Front
 written front lexemes = fold put front lexemes
 
--- The lexemes are written behind the front, unless memory runs out.
+-- The lexemes are written after the prefix, unless memory runs out.
 abbrev pub Writes : {E : Type 0} → Result (Unit {0}) E → Front → Front → List Lexeme → Type 0
 Writes result before after lexemes = OnOk result (after ≡ written before lexemes)

@@ -9,7 +9,7 @@ use Rattle.paql_grammar.specs.Lexemes.{Lexeme}
 use Rattle.paql_printer.specs.Spellings.{spelled, name}
 use Rattle.paql_printer.specs.Print.{Held, held, at_least}
 
--- What stands in front of the part at this place: the word, but for the first part.
+-- What comes before the part at this place: the word, but for the first part.
 abbrev pub separator : Kind → ℕ → List Lexeme
 separator kind at = if at == 0 then [] else spelled kind ∷ []
 

@@ -107,7 +107,7 @@ pred of = (fold-Pred Held held of).lexemes
 
 -- ---- aggregates
 
--- What stands in a COUNT: a conditional aggregate counts `*`, and any other names the package.
+-- What is in a COUNT: a conditional aggregate counts `*`, and any other names the package.
 abbrev pub rows : Bool → List ℕ → Option (List ℕ) → List Lexeme
 rows true package_name None = spelled kinds.Star ∷ []
 rows false package_name None = name package_name ∷ behind kinds.Dot (spelled kinds.Star ∷ [])
@@ -176,7 +176,7 @@ goal package_name of =
 
 -- ---- queries
 
--- The package stands behind AS, and the alias of the relation alone.
+-- The package comes after AS, and the alias of the relation alone.
 abbrev pub head : List ℕ → List ℕ → List Lexeme
 head of package_name =
     behind kinds.Select (behind kinds.Package

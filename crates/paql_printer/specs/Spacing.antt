@@ -4,7 +4,7 @@ use Rattle.std.specs.Prelude.{ℕ, Bool, not, ◌||◌, ◌&&◌, if◌then◌el
 use Rattle.paql_lexer.specs.declared.vocabulary.Kind.TheVariants as kinds
 use Rattle.paql_grammar.specs.Lexemes.{Lexeme, is, among}
 
--- A minus behind this lexeme stands between two terms of a sum: behind a number or a bracket.
+-- A minus after this lexeme is between two terms of a sum: after a number or a bracket.
 abbrev pub ends_term : Lexeme → Bool
 ends_term = among (kinds.Number ∷ kinds.RightParen ∷ [])
 
@@ -12,7 +12,7 @@ ends_term = among (kinds.Number ∷ kinds.RightParen ∷ [])
 abbrev pub calls : Lexeme → Bool
 calls = among (kinds.Package ∷ kinds.Count ∷ kinds.Sum ∷ kinds.Avg ∷ kinds.Dec ∷ [])
 
--- No space stands between the last lexeme and the next one, where `before` stands before the last.
+-- No space is between the last lexeme and the next one, where `before` comes before the last.
 abbrev pub touches : Lexeme → Lexeme → Lexeme → Bool
 touches before last next =
     is kinds.Dot last || (is kinds.Dot next
@@ -20,14 +20,14 @@ touches before last next =
     || ((is kinds.LeftParen next && calls last)
     || (is kinds.Minus last && not (ends_term before)))))))
 
--- The next lexemes, behind these two.
+-- The next lexemes, after these two.
 abbrev pub spaced_behind : Lexeme → Lexeme → List Lexeme → List ℕ
 spaced_behind before last [] = []
 spaced_behind before last (next ∷ later) =
     (if touches before last next then next.bytes else 32 ∷ next.bytes)
     ++ spaced_behind last next later
 
--- One space stands between two lexemes, or none where they touch.
+-- One space is between two lexemes, or none where they touch.
 abbrev pub spaced : List Lexeme → List ℕ
 spaced [] = []
 spaced (first ∷ later) = first.bytes ++ spaced_behind first first later

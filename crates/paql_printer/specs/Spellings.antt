@@ -21,7 +21,7 @@ signs =
     (codes "<=", kinds.LessOrEqual) ∷ (codes ">", kinds.Greater) ∷
     (codes ">=", kinds.GreaterOrEqual) ∷ (codes "<>", kinds.NotEqual) ∷ []
 
--- The bytes that stand beside the kind.
+-- The bytes that are beside the kind.
 abbrev pub spelling_in : List (List ℕ × Kind) → Kind → List ℕ
 spelling_in [] kind = []
 spelling_in (entry ∷ entries) kind =
@@ -42,7 +42,7 @@ name word =
 abbrev pub quoted : List ℕ → Lexeme
 quoted content = record { kind = kinds.Text; bytes = 39 ∷ (doubled content ++ 39 ∷ []) }
 
--- The magnitude of a number, without zeros at the end behind the point.
+-- The magnitude of a number, without zeros at the end after the point.
 abbrev pub number : Scaled → Lexeme
 number value =
     record { kind = kinds.Number; bytes = unsigned_text (printed_parts value.mant value.scale) }
@@ -50,7 +50,7 @@ number value =
 abbrev pub whole : ℕ → Lexeme
 whole value = record { kind = kinds.Number; bytes = decimal value }
 
--- A number, behind a minus where it is below zero.
+-- A number, after a minus where it is below zero.
 abbrev pub signed : Scaled → List Lexeme
 signed value =
     if is_negative value.mant then spelled kinds.Minus ∷ (number value ∷ []) else number value ∷ []

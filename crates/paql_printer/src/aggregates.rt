@@ -1,4 +1,4 @@
-//! Aggregates, and the sums that they stand in.
+//! Aggregates, and the sums that they are in.
 ghost use Rattle.paql_printer.specs.Print as print;
 ghost use Rattle.paql_printer.specs.Fronts.{Writes};
 ghost use Rattle.paql_printer.specs.Parts as parts;
@@ -136,7 +136,7 @@ fn term(writer: &mut Writer, package: &Text, of: &Term) -> Result<(), AllocError
     }
 }
 
-/// The sign in front of a term.
+/// The sign before a term.
 fn sign(writer: &mut Writer, at: usize, minus: bool) -> Result<(), AllocError>
     ensures { Writes result writer.old writer.new (parts.sign at minus) }
 {

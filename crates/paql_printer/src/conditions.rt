@@ -1,4 +1,4 @@
-//! Conditions, with brackets where a part holds together less tightly than what stands around it.
+//! Conditions, with brackets where a part holds together less tightly than what is around it.
 ghost use Rattle.std.specs.Prelude.{◌≡◌, ◌++◌};
 ghost use Rattle.paql_lexer.specs.declared.vocabulary.Kind.TheVariants as kinds;
 ghost use Rattle.paql_printer.specs.Print as print;

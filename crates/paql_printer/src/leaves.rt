@@ -75,7 +75,7 @@ pub(crate) fn whole(writer: &mut Writer, value: u64) -> Result<(), AllocError>
     writer.lexeme(Kind::Number, digits.as_bytes())
 }
 
-/// A number, behind a minus where it is below zero.
+/// A number, after a minus where it is below zero.
 pub(crate) fn signed(writer: &mut Writer, value: Scaled) -> Result<(), AllocError>
     ensures { Writes result writer.old writer.new (spellings.signed value) }
 {
@@ -108,7 +108,7 @@ fn prefix(writer: &mut Writer, prefix: &Option<Text>) -> Result<(), AllocError>
     }
 }
 
-/// A column, with a name in front of it or not.
+/// A column, with a name before it or not.
 pub(crate) fn column(writer: &mut Writer, column: &ColumnName) -> Result<(), AllocError>
     ensures { Writes result writer.old writer.new (print.column column.now) }
 {

@@ -11,7 +11,7 @@ use schema_types::{Column, Lit, Text};
 use sqlite_items::Items;
 use std::alloc::AllocError;
 
-/// What stands in a list.
+/// What is in a list.
 pub(crate) trait Entry {
     ghost use Rattle.std.specs.Prelude.{List};
     ghost use Rattle.paql_grammar.specs.Lexemes.{Lexeme};
@@ -84,7 +84,7 @@ fn column_kind(writer: &mut Writer, kind: schema_types::Kind) -> Result<(), Allo
     }
 }
 
-/// Writes the word, but in front of the first part.
+/// Writes the word, but before the first part.
 pub(crate) fn separate(writer: &mut Writer, kind: Kind, at: usize) -> Result<(), AllocError>
     ensures { Writes result writer.old writer.new (separator kind at) }
 {

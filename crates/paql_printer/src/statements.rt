@@ -135,10 +135,10 @@ fn lexemes(writer: &mut Writer, statement: &Statement) -> Result<(), AllocError>
     }
 }
 
-/// The canonical text of a statement. Keywords stand in upper case, and a name stands in double
-/// quotes where it would be a keyword. One space stands between two lexemes, but none beside a
-/// point, behind `(`, in front of `)` and `,`, between PACKAGE, COUNT, SUM, AVG or DEC and its
-/// bracket, and behind a minus that is a sign.
+/// The canonical text of a statement. Keywords are in upper case, and a name is in double
+/// quotes where it would be a keyword. One space is between two lexemes, but none beside a
+/// point, after `(`, before `)` and `,`, between PACKAGE, COUNT, SUM, AVG or DEC and its
+/// bracket, and after a minus that is a sign.
 pub fn print(alloc: Global, statement: &Statement) -> Result<Vec<u8>, AllocError>
     ensures canonical { IfOk result (λ text. text.items ≡ canonical_text statement.now) }
 

@@ -26,14 +26,14 @@ impl Model for Writer {
     ghost view = { λ w. record { bytes = w.bytes.items; before = w.before; last = w.last } };
 }
 
-/// Whether a minus behind a lexeme of this kind stands between two terms of a sum.
+/// Whether a minus after a lexeme of this kind is between two terms of a sum.
 fn ends_term(kind: Kind) -> bool
     ensures { result ≡ spacing.ends_term (of_kind kind) }
 {
     kind == Kind::Number || kind == Kind::RightParen
 }
 
-/// Whether the bracket behind a word of this kind follows without a space.
+/// Whether the bracket after a word of this kind follows without a space.
 fn calls(kind: Kind) -> bool
     ensures { result ≡ spacing.calls (of_kind kind) }
 {
@@ -44,7 +44,7 @@ fn calls(kind: Kind) -> bool
         || kind == Kind::Dec
 }
 
-/// Whether no space stands between the last lexeme and the next one.
+/// Whether no space is between the last lexeme and the next one.
 fn touches(before: Kind, last: Kind, next: Kind) -> bool
     ensures { result ≡ spacing.touches (of_kind before) (of_kind last) (of_kind next) }
 {
@@ -83,7 +83,7 @@ impl Writer {
         bytes
     }
 
-    /// Begins a lexeme, behind a space where one stands there.
+    /// Begins a lexeme, after a space where one is there.
     #[tactic(auto, unfolding(crate::specs::Fronts::begun))]
     pub(crate) fn begin(&mut self, kind: Kind) -> Result<(), AllocError>
         ensures { OnOk result (self.new ≡ begun self.old kind) }

@@ -1,4 +1,4 @@
-//! The bytes of a token, and what stands in them.
+//! The bytes of a token, and what is in them.
 ghost use Rattle.std.specs.Prelude.{◌≡◌, IfOk, MatchOption, Some, None, false};
 ghost use Rattle.paql_grammar.specs.Lexemes as lexemes;
 ghost use Rattle.paql_grammar.specs.Lexemes.{lexeme};
@@ -18,7 +18,7 @@ pub(crate) fn bytes_of(text: &[u8], token: Token) -> &[u8]
     bytes
 }
 
-/// What stands between the first byte and the last.
+/// What is between the first byte and the last.
 #[inline(always)]
 fn inside(bytes: &[u8]) -> &[u8]
     ensures { result.now ≡ lexemes.inside bytes.now }
@@ -43,7 +43,7 @@ pub(crate) fn name_of(text: &[u8], token: Token) -> Option<&[u8]>
     None
 }
 
-/// The bytes without each quote that a quote stands before.
+/// The bytes without each quote that a quote comes before.
 fn undoubled(alloc: Global, bytes: &[u8]) -> Result<Text, AllocError>
     ensures { IfOk result (λ content. content ≡ lexemes.undoubled false bytes.now) }
 {

@@ -1,4 +1,4 @@
-//! Conditions on a row: the tests of a column, NOT, AND and OR, and what stands in brackets.
+//! Conditions on a row: the tests of a column, NOT, AND and OR, and what is in brackets.
 ghost use Rattle.std.specs.Prelude.{◌≡◌, ◌++◌, OnOk};
 ghost use Rattle.formal_grammar.specs.Parse as parse;
 ghost use Rattle.paql_grammar.specs.Lexemes.{among, opens};
@@ -183,7 +183,7 @@ fn leaf(alloc: Global, source: Source<'_>) -> Result<(Pred, Source<'_>), ReadErr
 /// How many parts an AND or an OR has at least.
 const FEWEST_PARTS: usize = 2;
 
-/// Whether a bracket or a NOT stands first.
+/// Whether a bracket or a NOT comes first.
 fn sees_opening(source: Source<'_>) -> bool
     ensures { result ≡ parse.sees opens (left source.entry) }
 {
@@ -224,7 +224,7 @@ pub fn condition(
     or_rest(alloc, depth, first, rest)
 }
 
-/// The first part, and the others where an OR stands behind it.
+/// The first part, and the others where an OR comes after it.
 #[cycle(conditions)]
 #[tactic(auto, unfolding(paql_grammar::specs::ConditionReading::or_rest))]
 fn or_rest(
@@ -279,7 +279,7 @@ fn both(alloc: Global, depth: u32, source: Source<'_>) -> Result<(Pred, Source<'
     and_rest(alloc, depth, first, rest)
 }
 
-/// The first part, and the others where an AND stands behind it.
+/// The first part, and the others where an AND comes after it.
 #[cycle(conditions)]
 #[tactic(auto, unfolding(paql_grammar::specs::ConditionReading::and_rest))]
 fn and_rest(

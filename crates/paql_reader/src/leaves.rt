@@ -45,7 +45,7 @@ pub fn comparison(source: Source<'_>) -> Result<(CmpOp, Source<'_>), ReadError>
     Ok((op, after))
 }
 
-/// A number, with a minus in front or not.
+/// A number, with a minus before it or not.
 #[inline(always)]
 #[tactic(auto, unfolding(paql_grammar::specs::ConditionReading::signed))]
 pub fn signed(source: Source<'_>) -> Result<(Scaled, Source<'_>), ReadError>
@@ -97,7 +97,7 @@ fn suffix(alloc: Global, source: Source<'_>) -> Result<(Text, Source<'_>), ReadE
     name(alloc, rest)
 }
 
-/// A column, with a name in front of it or not.
+/// A column, with a name before it or not.
 #[inline(always)]
 #[tactic(auto, unfolding(paql_grammar::specs::ConditionReading::column))]
 pub fn column(alloc: Global, source: Source<'_>) -> Result<(ColumnName, Source<'_>), ReadError>

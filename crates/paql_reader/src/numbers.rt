@@ -10,13 +10,13 @@ use pq_base::Scaled;
 /// One more than the greatest magnitude that is stored.
 const LIMIT: u128 = 1_000_000_000_000_000_000_000_000_000_000;
 
-/// The most places behind the point that are stored.
+/// The most places after the point that are stored.
 const MOST_PLACES: usize = 30;
 
 /// The most digits of a whole number.
 const MOST_WHOLE_DIGITS: usize = 18;
 
-/// What stands before the first point, and what stands behind it.
+/// What comes before the first point, and what comes after it.
 fn split_point(text: &[u8]) -> (&[u8], &[u8])
     ensures before { result.0.now ≡ numerals.before_point text.now }
     ensures behind { result.1.now ≡ numerals.behind_point text.now }
@@ -78,7 +78,7 @@ fn with_sign(minus: bool, magnitude: u128) -> i128
     if minus { -value } else { value }
 }
 
-/// Whether a zero stands last behind the point.
+/// Whether the last digit after the point is a zero.
 fn ends_with_zero(magnitude: u128, places: usize) -> bool
     ensures { IsTrue result ↔ ((0 < places) × (magnitude % 10 ≡ 0)) }
 {

@@ -24,7 +24,7 @@ pub struct Source<'a> {
     pub tokens: &'a [Token],
 }
 
-/// Whether a token of this kind stands first.
+/// Whether a token of this kind comes first.
 #[inline(always)]
 pub fn sees(source: Source<'_>, kind: Kind) -> bool
     ensures { result ≡ parse.sees (is kind) (left source.entry) }
@@ -86,7 +86,7 @@ pub(crate) fn content(alloc: Global, source: Source<'_>) -> Result<(Text, Source
     }
 }
 
-/// A number with a minus in front of it that was read, or without one.
+/// A number with a minus before it that was read, or without one.
 #[inline(always)]
 pub fn number(minus: bool, source: Source<'_>) -> Result<(Scaled, Source<'_>), ReadError>
     ensures { Follows result (accept (lexemes.number_of minus)) source.entry }

@@ -14,7 +14,7 @@ enum Part {
     Condition(u32),
 }
 
-/// What the tests see of an answer: how many tokens are left, behind what was read or where it stopped.
+/// What the tests see of an answer: how many tokens are left, after what was read or where it stopped.
 #[derive(Clone, Copy, Debug, PartialEq, Eq)]
 enum Answer {
     Read(usize),

@@ -26,7 +26,7 @@ digits_value_after-push start [] digit = refl
 digits_value_after-push start (first ∷ digits) digit =
     digits_value_after-push (start * 10 + digit_value first) digits digit
 
--- digits behind digits
+-- digits after digits
 pub digits_value_after-append : (start : ℕ) (digits more : List ℕ) → digits_value_after 10 start (digits ++ more) ≡ digits_value_after 10 (digits_value_after 10 start digits) more
 digits_value_after-append start [] more = refl
 digits_value_after-append start (first ∷ digits) more =
@@ -39,12 +39,12 @@ capped_after most start (first ∷ digits) =
     let d = digit_value first in
     sym (capped_after most (min start most * 10 + d) digits) ∙ (ap (λ (n : ℕ). min (digits_value_after 10 n digits) most) (capped_push start d most) ∙ capped_after most (start * 10 + d) digits)
 
--- no digit stands at the front of a point and its digits
+-- no digit is at the start of a point and its digits
 pub no_digit_at_point : (digits : List ℕ) → BeginsWithDigit (point_and digits) → ⊥
 no_digit_at_point [] h = h
 no_digit_at_point (digit ∷ digits) h = omega arith
 
--- digits, where there are some, stand at the front
+-- digits, where there are some, are at the start
 pub begins : (digits more : List ℕ) → AllDigits 10 digits → 0 < length digits → BeginsWithDigit (digits ++ more)
 begins [] more all some = absurd (omega arith)
 begins (digit ∷ digits) more all some = all.0
@@ -55,7 +55,7 @@ no_sign sign a text b in_b p q high =
     let h : BeginsWithDigit (sign ∷ a) = subst BeginsWithDigit (sym q ∙ p) in_b in
     omega (arith, h)
 
--- there is one way to take all digits from the front of a text
+-- there is one way to take all digits from the start of a text
 pub split_once : (a b x y : List ℕ) → AllDigits 10 a → AllDigits 10 b → (BeginsWithDigit x → ⊥) → (BeginsWithDigit y → ⊥) → a ++ x ≡ b ++ y → (a ≡ b) × (x ≡ y)
 split_once [] [] x y p q no_x no_y e = (refl, e)
 split_once [] (d ∷ b) x y p q no_x no_y e = absurd (no_x (subst BeginsWithDigit (sym e) q.0))
@@ -70,11 +70,11 @@ split_once (c ∷ a) (d ∷ b) x y p q no_x no_y e =
 heads_differ : (x y : ℕ) (text a b : List ℕ) → x ≢ y → text ≡ x ∷ a → text ≡ y ∷ b → ⊥
 heads_differ x y text a b differ p q = differ (cc (p, q))
 
--- behind two signs that are one stands one number
+-- after two signs that are one comes one number
 same_sign : (sign : ℕ) (text a b : List ℕ) → text ≡ sign ∷ a → text ≡ sign ∷ b → a ≡ b
 same_sign sign text a b p q = cc (p, q)
 
--- the number behind no sign or a plus is the number behind either
+-- the number after no sign or a plus is the number after either
 plain_once : (text a b : List ℕ) → (text ≡ a) ⊎ (text ≡ 43 ∷ a) → (text ≡ b) ⊎ (text ≡ 43 ∷ b) → BeginsWithDigit a → BeginsWithDigit b → a ≡ b
 plain_once text a b (inl p) (inl q) in_a in_b = sym p ∙ q
 plain_once text a b (inl p) (inr q) in_a in_b = absurd (no_sign 43 b text a in_a q p (lit< tt))
@@ -86,14 +86,14 @@ minus_or_plain : (text a b : List ℕ) → text ≡ 45 ∷ a → (text ≡ b) �
 minus_or_plain text a b p (inl q) in_b = no_sign 45 a text b in_b p q (lit< tt)
 minus_or_plain text a b p (inr q) in_b = heads_differ 45 43 text a b (omega arith) p q
 
--- there is one way to take the sign from the front of a number
+-- there is one way to take the sign from the start of a number
 pub sign_once : (m n : Bool) (text a b : List ℕ) → HasSign m text a → HasSign n text b → BeginsWithDigit a → BeginsWithDigit b → (m ≡ n) × (a ≡ b)
 sign_once true true text a b p q in_a in_b = (refl, same_sign 45 text a b p q)
 sign_once true false text a b p q in_a in_b = absurd (minus_or_plain text a b p q in_b)
 sign_once false true text a b p q in_a in_b = absurd (minus_or_plain text b a q p in_a)
 sign_once false false text a b p q in_a in_b = (refl, plain_once text a b p q in_a in_b)
 
--- where a text is a point and digits, these are the digits at the front behind the point
+-- where a text is a point and digits, these are the digits at the start after the point
 pub fraction_is : (text digits front rest : List ℕ) → text ≡ 46 ∷ (front ++ rest) → AllDigits 10 front → (BeginsWithDigit rest → ⊥) → AllDigits 10 digits → text ≡ point_and digits → (digits ≡ front) × (rest ≡ []) × (0 < length digits)
 fraction_is text [] front rest e all no_more given same = cc (e, same)
 fraction_is text (digit ∷ digits) front rest e all no_more given same =
@@ -101,12 +101,12 @@ fraction_is text (digit ∷ digits) front rest e all no_more given same =
     let both = split_once front (digit ∷ digits) rest [] all given no_more (λ h. h) behind in
     (sym both.0, both.1, omega arith)
 
--- a text with no point in front is no fraction
+-- a text with no point before it is no fraction
 pub no_fraction : (text digits : List ℕ) → 0 < length text → ((places : List ℕ) → text ≡ 46 ∷ places → ⊥) → text ≡ point_and digits → ⊥
 no_fraction text [] some no_point same = omega (arith, ap length same)
 no_fraction text (digit ∷ digits) some no_point same = no_point (digit ∷ digits) same
 
--- parts that spell a text have its sign, the digits at the front behind it, and what stands behind them
+-- parts that spell a text have its sign, the digits at the start after it, and what comes after them
 pub parts_are : (text : List ℕ) (minus : Bool) (number front rest : List ℕ) (parts : Parts) → ((m : Bool) (n : List ℕ) → HasSign m text n → BeginsWithDigit n → (m ≡ minus) × (n ≡ number)) → number ≡ front ++ rest → AllDigits 10 front → (BeginsWithDigit rest → ⊥) → Spells text parts → (parts.whole ≡ front) × (rest ≡ point_and parts.fraction)
 parts_are text minus number front rest parts one e all no_more spells =
     let in_front = begins parts.whole (point_and parts.fraction) spells.whole spells.some in
@@ -160,7 +160,7 @@ pub tens_step : (start turn most : ℕ) → min (min (start * 10 ^ turn) most * 
 tens_step start turn most =
     capped_tens (start * 10 ^ turn) most ∙ ap (λ (n : ℕ). min n most) (omega (arith, tens_more start (10 ^ turn) (10 ^ (turn + 1)) (pow_more 10 turn)))
 
--- zeros behind a number multiply it
+-- zeros after a number multiply it
 pub digits_value_after-zeros : (start zeros : ℕ) → digits_value_after 10 start (replicate zeros 48) ≡ start * 10 ^ zeros
 digits_value_after-zeros start zero = omega arith
 digits_value_after-zeros start (suc zeros) =
@@ -168,7 +168,7 @@ digits_value_after-zeros start (suc zeros) =
     let e : 10 ^ suc zeros ≡ 10 ^ zeros * 10 = pow-suc 10 zeros in
     ap (λ (n : ℕ). digits_value_after 10 n (replicate zeros 48)) first ∙ (digits_value_after-zeros (start * 10) zeros ∙ tens_more start (10 ^ zeros) (10 ^ suc zeros) e)
 
--- all digits of a front
+-- all digits of a prefix
 pub AllDigits-take : (count : ℕ) (digits : List ℕ) → AllDigits 10 digits → AllDigits 10 (take count digits)
 AllDigits-take zero digits all = tt
 AllDigits-take (suc count) [] all = tt

@@ -13,12 +13,12 @@ pub padded_is_ascii : (scale number : ℕ) → number < 10 ^ 64 → All (λ (byt
 padded_is_ascii scale number small =
     All-append (λ (byte : ℕ). byte < 128) (replicate (scale + 1 - length (decimal number)) 48) (decimal number) (All-replicate (λ (byte : ℕ). byte < 128) (scale + 1 - length (decimal number)) 48 (lit< tt)) (All-from_ascii (decimal number) (IsAscii-decimal_wide number small))
 
--- digits behind digits
+-- digits after digits
 AllDigits-append : (digits more : List ℕ) → AllDigits 10 digits → AllDigits 10 more → AllDigits 10 (digits ++ more)
 AllDigits-append [] more p q = q
 AllDigits-append (digit ∷ digits) more p q = (p.0, AllDigits-append digits more p.1 q)
 
--- what stands behind a front of digits
+-- what comes after a prefix of digits
 AllDigits-drop : (count : ℕ) (digits : List ℕ) → AllDigits 10 digits → AllDigits 10 (drop count digits)
 AllDigits-drop zero digits all = all
 AllDigits-drop (suc count) [] all = tt
@@ -39,7 +39,7 @@ length-padded : (scale : ℕ) (digits : List ℕ) → scale < length (padded sca
 length-padded scale digits =
     omega (arith, length-append (replicate (scale + 1 - length digits) 48) digits, length-replicate {A = ℕ} (scale + 1 - length digits) 48)
 
--- zeros in front leave the value
+-- zeros before it leave the value
 digits_value-padded : (scale number : ℕ) → number < 10 ^ 64 → digits_value 10 (padded scale (decimal number)) ≡ number
 digits_value-padded scale number small =
     let zeros = scale + 1 - length (decimal number) in
@@ -53,13 +53,13 @@ filled_is places digits e =
     let all : take places digits ≡ digits = take_all places digits (omega (arith, e)) in
     ap (λ (n : ℕ). take places digits ++ replicate n 48) none ∙ (append-nil (take places digits) ∙ all)
 
--- how many digits stand behind the point
+-- how many digits comes after the point
 length-fraction : (value : ℤ) (scale : ℕ) → length (printed_parts value scale).fraction ≡ scale
 length-fraction value scale =
     let digits = padded scale (decimal (unsigned_abs value)) in
     omega (arith, length-drop (length digits - scale) digits, length-padded scale (decimal (unsigned_abs value)))
 
--- a number behind its sign
+-- a number after its sign
 HasSign-sign_text : (minus : Bool) (number : List ℕ) → HasSign minus (sign_text minus ++ number) number
 HasSign-sign_text true number = refl
 HasSign-sign_text false number = inl refl
@@ -95,7 +95,7 @@ pub printed_is_spelled : PrintedIsSpelled
 printed_is_spelled value scale small =
     (printed_parts value scale, Spells-printed value scale small, refl, length-fraction value scale, units_of-printed value scale small)
 
--- nothing stands behind the last place
+-- nothing comes after the last place
 IsFine-printed : (value : ℤ) (scale : ℕ) → IsFine scale (printed_parts value scale)
 IsFine-printed value scale = λ k d within.
     let none = ap (λ (xs : List ℕ). length xs) (drop_all scale (printed_parts value scale).fraction (omega (arith, length-fraction value scale))) in

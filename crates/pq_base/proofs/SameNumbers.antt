@@ -1,4 +1,4 @@
--- Lemmas on numbers with places behind the point.
+-- Lemmas on numbers with places after the point.
 use Rattle.std.proofs.Common.{◌≡◌, ◌≢◌, ℕ, zero, suc, ◌+◌, ◌-◌, ◌*◌, ◌/◌, ◌%◌, ◌^◌, ◌<◌, ◌≤◌, min, Bool, true, false, List, replicate, Ok, Err, subst, refl, sym, ap, ◌∙◌, pos, ℤ, ◌*ℤ◌, neg_ℤ, arith, unsigned_abs}
 use Rattle.std.proofs.Math.Nat.{mul_assoc, mul-div_cancel, mul-mod_left, pow-suc}
 use Rattle.std.proofs.lemmas.Nat.{pow-add}

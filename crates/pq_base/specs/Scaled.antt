@@ -1,4 +1,3 @@
--- Private: `Scaled` in `src/scaled.rt`: numbers in units of a scale.
 -- Decimal numbers as an integer and how many of its digits come after the point.
 use Rattle.std.specs.Prelude.{◌≡◌, ℕ, ◌^◌, ◌<◌, ◌≤◌, ℤ, pos, ◌*ℤ◌, Result, Ok, Err}
 use Rattle.std.specs.Int.RustNames.{unsigned_abs}

@@ -21,7 +21,7 @@ use Rattle.query_answer.specs.declared.answering.Answered.{Answered}
 use Rattle.query_answer.specs.declared.answering.Answered.TheVariants.{Reply, Refused}
 use Rattle.query_answer.specs.declared.kept.Kept.{Kept}
 
--- the rows of a table, each behind its id
+-- the rows of a table, each after its id
 abbrev pub Rows : Type 0
 Rows = List (ℕ × List Cell)
 
@@ -75,7 +75,7 @@ pub record IsInfeasible (query : BoundQuery) (rows : Rows) (version : ℕ) (repl
   pub proof : IsKeptProof query rows None kept
   pub shown : reply ≡ answers.infeasible version
 
--- the worth of the package that was found, where one was
+-- the worth of the package that was found, if one was
 abbrev pub worth_in : BoundQuery → Rows → Option (List (ℕ × ℕ)) → Option ℤ
 worth_in query rows None = None
 worth_in query rows (Some pairs) = Some (worth_of query rows pairs)

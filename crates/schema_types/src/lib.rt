@@ -14,7 +14,7 @@ pub type Text = Items<u8>;
 pub enum Kind {
     /// Whole numbers.
     Int,
-    /// Decimal numbers with at most so many digits behind the point.
+    /// Decimal numbers with at most so many digits after the point.
     Dec(u64),
     /// Texts.
     Text,

@@ -38,7 +38,7 @@ pub done_if : (E P U : Type 0) (outcome : Stepped) → Outcome E P U outcome →
 done_if E P U Done steps enabled = steps.1
 done_if E P U NotEnabled steps enabled = absurd (steps.0 enabled)
 
--- events behind events
+-- events after events
 pub runs_then : (p : ProblemData) (before middle after : CoreState) (first second : List Event) → Runs p before first middle → Runs p middle second after → Runs p before (first ++ second) after
 runs_then p before middle after [] second one two = subst (λ (s : CoreState). Runs p s second after) one two
 runs_then p before middle after (event ∷ first) second one two = (one.0, one.1, one.2, runs_then p one.1 middle after first second one.3 two)

@@ -78,7 +78,7 @@ opened old new hand var at mult is =
     (IsPermutation-append_comm old (high ∷ (low ∷ [])))
     (IsPermutation-append_left old (high ∷ (low ∷ [])) (low ∷ (high ∷ [])) (IsPermutation-reverse (high ∷ (low ∷ [])))))
 
--- the node that stands where a worker's does is the worker's
+-- the node that is where a worker's does is the worker's
 pub at_hand : (hands : List Hand) (worker place : ℕ) (found : Hand) → IsHeldAt hands worker place → found ≡ slice_index_or hands place found → (slice_get hands place ≡ Some found) × (found.worker ≡ worker)
 at_hand hands worker place found held is =
     let same : found ≡ held.0 = is ∙ get_or_from_slice_get hands place held.0 found held.1 in

@@ -23,7 +23,7 @@ rebalance records left other same balanced =
     let before = map path_in records in
     IsPermutation-trans (before ++ other) (before ++ left) (([] ∷ []) ++ Rattle.std.specs.List.flat_map children records) (IsPermutation-append_right before other left same) balanced
 
--- a node in hand stands among what is to do
+-- a node in hand is among what is to do
 pub hand_first : (left : List (List Branch)) (before after : List Hand) (hand : Hand) → IsPermutation before (hand ∷ after) → IsPermutation (to_do left before) (hand.path ∷ to_do left after)
 hand_first left before after hand moved =
     IsPermutation-trans (to_do left before) (left ++ map path_held (hand ∷ after)) (hand.path ∷ to_do left after)

@@ -75,7 +75,7 @@ rises_run p before after [] runs = same_at_most before.best after.best (ap (λ (
 rises_run p before after (event ∷ events) runs =
     at_most_then (value_in before.best) (value_in runs.1.best) (value_in after.best) (rises_step p before runs.1 event runs.0 runs.2) (rises_run p runs.1 after events runs.3)
 
--- an offered point is not above the best behind it
+-- an offered point is not above the best after it
 not_above_more : (p : ProblemData) (point : List ℕ) (value most : Option ℤ) → IsAtMost value most → NotAbove p point value → NotAbove p point most
 not_above_more p point None most more below = absurd below
 not_above_more p point (Some value) None more below = more

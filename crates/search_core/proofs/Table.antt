@@ -12,7 +12,7 @@ use Rattle.search_core.specs.Search.{value_in}
 use Rattle.search_core.specs.Moves.{IsLastTaken}
 use Rattle.search_core.specs.Core.{CoreState, Holds, IsBusy, IsHeldAt, in_hand, Replaced, IsTaken, IsLooked, IsDropped}
 
--- what stands at a place is among them, and the others are what is left without it
+-- what is at a place is among them, and the others are what is left without it
 pub found_at : {X : Type 0} (xs : List X) (place : ℕ) (x : X) → slice_get xs place ≡ Some x → Contains xs x
 found_at xs place x there = (place, slice_get_within xs place x there, get_or_from_slice_get xs place x x there)
 

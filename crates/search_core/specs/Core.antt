@@ -46,7 +46,7 @@ Holds hands worker hand = Contains hands hand × (hand.worker ≡ worker)
 abbrev pub IsBusy : List Hand → ℕ → Type 0
 IsBusy hands worker = (hand : Hand) × Holds hands worker hand
 
--- and it stands at this place
+-- and it is at this place
 abbrev pub IsHeldAt : List Hand → ℕ → ℕ → Type 0
 IsHeldAt hands worker place =
     (hand : Hand) × (slice_get hands place ≡ Some hand) × (hand.worker ≡ worker)

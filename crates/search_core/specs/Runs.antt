@@ -18,7 +18,7 @@ use Rattle.search_core.specs.declared.proposal.Proposal.{Proposal}
 use Rattle.search_core.specs.declared.event.Event.{Event}
 use Rattle.search_core.specs.declared.event.Event.TheVariants.{Handle, Offer}
 
--- a problem, and where its search stands
+-- a problem, and how far its search is
 pub record CoreData : Type 0 where
   pub problem : ProblemData
   pub state : CoreState

@@ -14,7 +14,7 @@ use lin_bound::{Path, Problem, Region, box_of};
 use std::alloc::{AllocError, Global};
 use std::marker::Model;
 
-/// A problem, and where its search stands. What holds of it after any list of events is its invariant.
+/// A problem, and how far its search is. What holds of it after any list of events is its invariant.
 #[derive(Debug, Drop)]
 pub struct Core {
     problem: Problem,

@@ -1,4 +1,4 @@
-//! Where a search stands, and each row of the table of its events.
+//! How far a search is, and each row of the table of its events.
 ghost use Rattle.std.specs.Prelude.{◌≡◌, ◌≢◌, [], ◌<◌, ◌≤◌, ◌↔◌, IsTrue, length, IfOk, OnErr, MatchOption};
 ghost use Rattle.std.specs.Prelude.{MatchBool, Contains, slice_get, Some};
 ghost use Rattle.lin_bound.specs.Problem.{IsFeasible};
@@ -47,7 +47,7 @@ impl Model for State {
     } };
 }
 
-/// Where a path stands among the open ones: the last place, since a search goes on where it last was.
+/// Where a path is among the open ones: the last place, since a search goes on where it last was.
 fn place_of_path(left: &[OpenPath], path: &Path) -> Option<usize>
     ensures { MatchOption result (¬ Contains left.now path.now)
         (λ place. slice_get left.now place ≡ Some path.now) }
@@ -62,7 +62,7 @@ fn place_of_path(left: &[OpenPath], path: &Path) -> Option<usize>
     None
 }
 
-/// Where the node of a worker stands among those in hand.
+/// Where the node of a worker is among those in hand.
 fn place_of_hand(hands: &[Hand], worker: u32) -> Option<usize>
     ensures { MatchOption result (¬ IsBusy hands.now worker)
         (λ place. IsHeldAt hands.now worker place) }

@@ -14,7 +14,7 @@ use Rattle.session_proto.specs.declared.scan.Place.TheVariants as places
 abbrev IsSilent : Place → List ℕ → Type 0
 IsSilent place bytes = (shows_token place bytes ≡ false) × (is_dash (place_behind place bytes) ≡ false)
 
--- one byte more in front
+-- one byte more before it
 silent_more : (place later : Place) (byte : ℕ) (bytes : List ℕ) → shows place byte ≡ false → after place byte ≡ later → IsSilent later bytes → IsSilent place (byte ∷ bytes)
 silent_more place later byte bytes silent leads rest = (
   ap (λ (b : Bool). b || shows_token (after place byte) bytes) silent ∙ (ap (λ (p : Place). shows_token p bytes) leads ∙ rest.0),
@@ -122,7 +122,7 @@ or_second : (a b : Bool) → (a || b) ≡ false → b ≡ false
 or_second true b none = cc
 or_second false b none = none
 
--- one byte less in front
+-- one byte less before it
 silent_less : (place later : Place) (byte : ℕ) (bytes : List ℕ) → after place byte ≡ later → IsSilent place (byte ∷ bytes) → IsSilent later bytes
 silent_less place later byte bytes leads silent =
     let rest : IsSilent (after place byte) bytes =

@@ -51,7 +51,7 @@ blank_open : (bytes : List ℕ) → IsTrue (is_blank bytes) → IsOpen places.Pl
 blank_open bytes blank =
     silent_open places.Plain bytes (both_not (shows_token places.Plain bytes) (is_dash (place_behind places.Plain bytes)) blank)
 
--- ---- the rest behind the same frames is one
+-- ---- the rest after the same frames is one
 
 -- how many bytes the body has
 size_of : Content → ℕ

@@ -32,7 +32,7 @@ pub skips_one : (text rest : List ℕ) → IsBlankFrame text → Skips (closed t
 skips_one text rest blank =
     (text ∷ [], (blank, tt), ap (λ (w : List ℕ). w ++ rest) (sym (append-nil (closed text))))
 
--- what comes behind stays behind
+-- what comes after stays after
 pub skips_append : (bytes rest more : List ℕ) → Skips bytes rest → Skips (bytes ++ more) (rest ++ more)
 skips_append bytes rest more skips =
     (skips.0, skips.1, ap (λ (w : List ℕ). w ++ more) skips.2 ∙ append_assoc (flat_map closed skips.0) rest more)

@@ -1,4 +1,4 @@
--- Frames stand at one place alone.
+-- Frames are at one place alone.
 use Rattle.std.proofs.Common.{◌≡◌, ℕ, ◌+◌, ◌-◌, ◌≤◌, true, false, List, [], ◌∷◌, ◌++◌, length, take, IsTrue, IsFalse, refl, sym, ap, ◌∙◌, subst, append_assoc, length-append, arith}
 use Rattle.std.specs.List.{AllByRecursion, flat_map}
 use Rattle.std.proofs.lemmas.List.{append-nil, append_cancel_left, take-append-le}
@@ -14,7 +14,7 @@ ends_at place byte code e goes_on =
     let no : true ≡ false = rw code at at_end in
     cc no
 
--- two texts in front of a `;` that ends both are one
+-- two texts before a `;` that ends both are one
 text_once : (place : Place) (t u x y : List ℕ) → IsOpen place t → IsOpen place u → IsTrue (is_code (place_behind place t)) → IsTrue (is_code (place_behind place u)) → t ++ 59 ∷ x ≡ u ++ 59 ∷ y → t ≡ u
 text_once place [] [] x y open_t open_u code_t code_u e = refl
 text_once place [] (b ∷ u) x y open_t open_u code_t code_u e =
@@ -46,14 +46,14 @@ none_open place (a ∷ bytes) (b ∷ t) x is_open code e =
 closed-append : (text rest : List ℕ) → closed text ++ rest ≡ text ++ 59 ∷ rest
 closed-append text rest = append_assoc text (59 ∷ []) rest
 
--- a frame at the front is one
+-- a frame at the start is one
 pub frame_once : (t u x y : List ℕ) → IsFrame t → IsFrame u → closed t ++ x ≡ closed u ++ y → (t ≡ u) × (x ≡ y)
 frame_once t u x y is_t is_u e =
     let whole : t ++ 59 ∷ x ≡ u ++ 59 ∷ y = sym (closed-append t x) ∙ (e ∙ closed-append u y) in
     let same = text_once places.Plain t u x y is_t.open_before is_u.open_before is_t.ends_behind is_u.ends_behind whole in
     (same, append_cancel_left (closed u) x y (ap (λ (w : List ℕ). closed w ++ x) (sym same) ∙ e))
 
--- no frame stands at the front
+-- no frame is at the start
 abbrev pub NoFrame : List ℕ → Type 0
 NoFrame bytes = (text rest : List ℕ) → IsFrame text → bytes ≡ closed text ++ rest → ⊥
 
@@ -78,7 +78,7 @@ pub no_frame_too_long : (bytes : List ℕ) → 1048576 ≤ length bytes → IsOp
 no_frame_too_long bytes long is_open =
     subst (λ (w : List ℕ). NoFrame w) (append-nil bytes) (no_frame_long bytes [] long is_open)
 
--- blank frames in front of what begins with a statement, or with no frame, are the same
+-- blank frames before what begins with a statement, or with no frame, are the same
 blank_and_not : (text : List ℕ) → IsTrue (is_blank text) → IsFalse (is_blank text) → ⊥
 blank_and_not text blank token =
     let no : true ≡ false = sym blank ∙ token in
@@ -116,7 +116,7 @@ blanks_before_none (a ∷ ts) (b ∷ us) left u y all_t none all_u is_u e =
     let same = frame_once a b p q all_t.0.0 all_u.0.0 (sym (append_assoc (closed a) (flat_map closed ts) left) ∙ (e ∙ append_assoc (closed b) (flat_map closed us) (closed u ++ y))) in
     blanks_before_none ts us left u y all_t.1 none all_u.1 is_u same.1
 
--- behind skipped frames stands no statement where no frame stands
+-- after skipped frames there is no statement if there is no frame
 pub no_statement : (bytes left text rest : List ℕ) → Skips bytes left → NoFrame left → IsStatement text → Skips bytes (closed text ++ rest) → ⊥
 no_statement bytes left text rest one none is_text other =
     blanks_before_none one.0 other.0 left text rest one.1 none other.1 is_text (sym one.2 ∙ other.2)
@@ -133,7 +133,7 @@ blanks_before_rests (a ∷ ts) (b ∷ us) x y all_t all_u no_x no_y e =
     let same = frame_once a b p q all_t.0.0 all_u.0.0 (sym (append_assoc (closed a) (flat_map closed ts) x) ∙ (e ∙ append_assoc (closed b) (flat_map closed us) y)) in
     blanks_before_rests ts us x y all_t.1 all_u.1 no_x no_y same.1
 
--- what stands behind all frames that are skipped is one
+-- what comes after all frames that are skipped is one
 pub rest_once : (bytes x y : List ℕ) → Skips bytes x → Skips bytes y → NoFrame x → NoFrame y → x ≡ y
 rest_once bytes x y one other no_x no_y =
     blanks_before_rests one.0 other.0 x y one.1 other.1 no_x no_y (sym one.2 ∙ other.2)

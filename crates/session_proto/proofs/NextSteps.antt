@@ -17,7 +17,7 @@ owes_nothing awaited none owes =
     let some : 0 < owed None = subst (λ (a : Option Awaited). 0 < owed a) none owes in
     omega (arith, some)
 
--- a body that stands whole among the bytes held
+-- a body that is whole among the bytes held
 pub content_here : (held now bytes : List ℕ) (start size next : ℕ) → now ≡ held → next ≡ start + size → size ≤ length (take (length now - start) (drop start now)) → bytes ≡ take size (take (length now - start) (drop start now)) → (length bytes ≡ size) × (drop start held ≡ bytes ++ drop next held)
 content_here held now bytes start size next same e fits b =
     let left = drop start held in
@@ -34,7 +34,7 @@ pub record IsGiven (held text : List ℕ) (from next : ℕ) : Type 0 where
   pub first : Skips (drop from held) (closed text ++ drop next held)
   pub within : next ≤ length held
 
--- a statement that stands whole at the cursor
+-- a statement that is whole at the cursor
 pub statement_here : (held now later text : List ℕ) (from next : ℕ) (cursor : Cursor) → now ≡ held → later ≡ held → IsAt cursor now → StandsAtEnd cursor.scan (drop cursor.start now) → IsFalse (is_blank_scan cursor.scan) → Skips (drop from now) (drop cursor.start now) → next ≡ cursor.start + cursor.scan.passed + 1 → text ≡ take (cursor.start + cursor.scan.passed - cursor.start) (drop cursor.start later) → IsGiven held text from next
 statement_here held now later text from next cursor same same' at at_end token skips e b =
     let left = drop cursor.start held in

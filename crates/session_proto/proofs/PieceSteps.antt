@@ -34,7 +34,7 @@ stays_at byte code here other = cond-false (byte == code) places.Plain here (ne_
 
 -- ---- from places to pieces
 
--- no frame ends in the text, and a `;` behind it ends one
+-- no frame ends in the text, and a `;` after it ends one
 abbrev pub Runs : Place → List ℕ → Type 0
 Runs place text = IsOpen place text × IsTrue (is_code (place_behind place text))
 
@@ -138,7 +138,7 @@ runs_comment [] rest lacks runs = runs_step places.Comment places.Plain 10 rest 
 runs_comment (byte ∷ line) rest lacks runs =
     runs_step places.Comment places.Comment byte (line ++ 10 ∷ rest) refl (stays_at byte 10 places.Comment lacks.0) (runs_comment line rest lacks.1 runs)
 
--- behind a `-` alone it goes on as elsewhere
+-- after a `-` alone it goes on as elsewhere
 runs_dash : (rest : List ℕ) → (¬ BeginsWith 45 (rest ++ 59 ∷ [])) → Runs places.Plain rest → Runs places.Dash rest
 runs_dash [] alone runs = (tt, refl)
 runs_dash (byte ∷ rest) alone runs =

@@ -14,7 +14,7 @@ Fields = List (List ℕ × FieldData)
 
 -- ---- the place of a key
 
--- what stands from a place on, by the field there
+-- what is there from a place on, by the field there
 fields_at : (members : List Member) (i : ℕ) (item : Member) → i < length members → item ≡ get_or members i item → drop i (map member_of members) ≡ member_of item ∷ drop (i + 1) (map member_of members)
 fields_at members i item within is =
     let fields = map member_of members in
@@ -32,7 +32,7 @@ fields_before members i item within is =
 abbrev pub PutsFrom : List ℕ → Fields → ℕ → Type 0
 PutsFrom key fields i = (value : FieldData) → put key value fields ≡ take i fields ++ put key value (drop i fields)
 
--- behind a lesser key
+-- after a lesser key
 pub put_greater : (key : List ℕ) (members : List Member) (i : ℕ) (item : Member) → i < length members → item ≡ get_or members i item → slice_cmp nat_cmp key (string_bytes item.key) ≡ Greater → PutsFrom key (map member_of members) i → PutsFrom key (map member_of members) (i + 1)
 put_greater key members i item within is greater before value =
     let fields = map member_of members in
@@ -45,7 +45,7 @@ put_greater key members i item within is greater before value =
     ∙ (sym (append_assoc (take i fields) (member_of item ∷ []) (put key value rest))
     ∙ ap (λ (w : Fields). w ++ put key value rest) (sym (fields_before members i item within is)))))
 
--- in front of a greater key
+-- before a greater key
 pub put_less : (key : List ℕ) (members : List Member) (i : ℕ) (item : Member) → i < length members → item ≡ get_or members i item → slice_cmp nat_cmp key (string_bytes item.key) ≡ Less → PutsFrom key (map member_of members) i → IsPlaceOf key (map member_of members) i false
 put_less key members i item within is less before =
     let fields = map member_of members in

@@ -64,7 +64,7 @@ pub is_blank-all : (scan : Scan) (left : List ℕ) → length left ≤ scan.pass
 is_blank-all scan left all read =
     is_blank-read scan left (subst (λ (front : List ℕ). IsRead scan front) (take_all scan.passed left all) read)
 
--- bytes that come behind don't change a scan
+-- bytes that come after don't change a scan
 pub IsScan-append : (scan : Scan) (left more : List ℕ) → IsScan scan left → IsScan scan (left ++ more)
 IsScan-append scan left more is_scan =
     let same : take scan.passed left ≡ take scan.passed (left ++ more) = sym (take-append-le scan.passed left more is_scan.within) in

@@ -224,7 +224,7 @@ stands_after_body Wants bytes text frames given input after stands next =
 
 -- ---- at the end
 
--- a body of which some is still to come doesn't stand whole
+-- a body of which some is still to come isn't there whole
 partial_none : (body : Awaited) (thrown left whole rest : List ℕ) → IsPartial body left → length thrown + body.owed ≡ (if nat_le body.bytes 16777216 then 0 else body.bytes) → (0 < body.owed → left ≡ []) → length whole ≡ body.bytes → thrown ++ left ≡ whole ++ rest → ⊥
 partial_none body thrown left whole rest (inl large) owes settled size e =
     let all : length thrown + body.owed ≡ body.bytes = owes ∙ cond-false (nat_le body.bytes 16777216) 0 body.bytes (lt-leb body.bytes 16777216 large.0) in
@@ -252,7 +252,7 @@ not_overlong rest left skips is_open few overlong =
     let same : left ≡ overlong.left = rest_once rest left overlong.left skips overlong.skips (no_frame_open left is_open) (no_frame_too_long overlong.left overlong.long overlong.is_open) in
     omega (arith, few, overlong.long, ap (λ (w : List ℕ). length w) same)
 
--- nor where a statement stands
+-- nor where a statement is
 statement_not_overlong : (rest text behind : List ℕ) → IsStatement text → Skips rest (closed text ++ behind) → ¬ IsOverlong rest
 statement_not_overlong rest text behind is_text first overlong =
     no_statement rest overlong.left text behind overlong.skips (no_frame_too_long overlong.left overlong.long overlong.is_open) is_text first

@@ -6,7 +6,7 @@ use Rattle.serde_json.specs.View.{items_of}
 use Rattle.serde_json.specs.Written.{has_float, items_have_float, members_have_float}
 use Rattle.session_proto.specs.Replies.{FieldData, num, text, pairs, flag, Ascends, pair_data, field_data, members_data}
 
--- a least key goes to the front
+-- a least key goes to the start
 pub put_front : (key : List ℕ) (value : FieldData) (fields : List (List ℕ × FieldData)) → Ascends ((key, value) ∷ fields) → json.put key (field_data value) (members_data fields) ≡ members_data ((key, value) ∷ fields)
 put_front key value [] ascends = refl
 put_front key value (next ∷ fields) ascends =
@@ -15,7 +15,7 @@ put_front key value (next ∷ fields) ascends =
     (json.member next.0 (field_data value) (members_data fields))
     (json.member next.0 (field_data next.1) (json.put key (field_data value) (members_data fields)))) ascends.0
 
--- no float stands in a reply
+-- no float is in a reply
 no_float_pairs : (list : List (ℕ × ℕ)) → items_have_float (items_of (map pair_data list)) ≡ false
 no_float_pairs [] = refl
 no_float_pairs (pair ∷ list) = no_float_pairs list

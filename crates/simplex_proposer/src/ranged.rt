@@ -28,7 +28,7 @@ pub(crate) enum Ranged {
     Crossed(usize),
 }
 
-/// How a row stands to a box.
+/// How a row relates to a box.
 #[derive(Clone, Copy, Debug)]
 enum Standing {
     /// Each point of the box keeps it.
@@ -107,7 +107,7 @@ fn has_twin(problem: &Problem, row: usize) -> bool {
     true
 }
 
-/// How a row and its twin, if it has one, stand to the box.
+/// How a row and its twin, if it has one, relate to the box.
 fn standing_of(problem: &Problem, region: &Region, row: usize, twin: Option<usize>) -> Standing {
     let span = span_of(problem, region, row);
     let most = right_side(problem, row);

@@ -1,4 +1,3 @@
--- Private: the cells in `src/cells.rt`.
 -- What a literal gives as a cell of a column, and which cells a column can have.
 use Rattle.std.specs.Prelude.{ℕ, ◌≤◌, ◌^◌, nat_le, if◌then◌else◌, List, length, ℤ, Result, Ok, Err}
 use Rattle.std.specs.Int.RustNames.{unsigned_abs}

@@ -1,4 +1,3 @@
--- Private: `Schema` in `src/schema.rt`: which lists of columns a table can have.
 -- The columns of a table, their faults, and where a name is among them.
 use Rattle.std.specs.Prelude.{◌≢◌, ℕ, ◌<◌, ◌≤◌, nat_lt, nat_le, Bool, true, ◌&&◌}
 use Rattle.std.specs.Prelude.{if◌then◌else◌, IsTrue, List, [], ◌∷◌, ◌++◌, length, All, AllPairs}

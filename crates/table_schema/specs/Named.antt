@@ -1,4 +1,3 @@
--- Private: `schema_named` in `src/schemas.rt`: tables by their names.
 -- The schema of the table of a name.
 use Rattle.std.specs.Prelude.{ℕ, if◌then◌else◌, List, [], ◌∷◌, Option, Some, None}
 use Rattle.std.specs.Str.{bytes_eq}

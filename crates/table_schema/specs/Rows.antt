@@ -1,4 +1,3 @@
--- Private: the rows in `src/rows.rt`.
 -- What literals give as a row of a table, and which rows a table can have.
 use Rattle.std.specs.Prelude.{◌≡◌, ℕ, ◌+◌, ◌==◌, if◌then◌else◌, List, [], ◌∷◌, length, Result, Ok}
 use Rattle.std.specs.Prelude.{Err}

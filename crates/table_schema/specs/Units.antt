@@ -1,4 +1,3 @@
--- Private: the cells of numbers in `src/cells.rt`.
 -- The one answer that pq_base's definition of units allows, as a function.
 use Rattle.std.specs.Prelude.{◌≡◌, ℕ, ◌*◌, ◌/◌, ◌%◌, ◌^◌, nat_le, Bool, ◌==◌, if◌then◌else◌, ℤ}
 use Rattle.std.specs.Prelude.{Result, Ok, Err}

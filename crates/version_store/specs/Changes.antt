@@ -1,4 +1,3 @@
--- Private: the history, and what stands on it.
 -- What a change does to a state, and how many rows it changes, where it isn't refused.
 use Rattle.std.specs.Prelude.{ℕ, suc, ◌+◌, Bool, true, not, if◌then◌else◌, Result, Ok, Err, List}
 use Rattle.std.specs.Prelude.{[], ◌∷◌, ◌++◌, map, filter, length, Option, None, Some, slice_set}

@@ -1,4 +1,3 @@
--- Private: the history, and what stands on it.
 -- Why a change is refused: computed lists, of which the first entry is answered. A change is judged
 -- on the state that the changes before it leave.
 use Rattle.std.specs.Prelude.{ℕ, suc, ◌+◌, nat_lt, nat_le, Bool, false, ◌&&◌, ◌||◌, if◌then◌else◌}

@@ -1,4 +1,3 @@
--- Private: the store, and the sessions over it.
 -- Histories: lists of commits. A history is replayed from no table on, and each version is the
 -- state after one more commit.
 use Rattle.std.specs.Prelude.{◌≡◌, ℕ, suc, ◌+◌, ◌-◌, ◌^◌, nat_lt, ◌==◌, ◌&&◌, ◌||◌, Bool, false}

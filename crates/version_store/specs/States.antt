@@ -1,4 +1,3 @@
--- Private: the history, and what stands on it.
 -- What a version of a store shows.
 use Rattle.std.specs.Prelude.{ℕ, if◌then◌else◌, List, [], ◌∷◌, map, Option, None, Some}
 use Rattle.std.specs.Option.{option_map}
@@ -20,7 +19,7 @@ pub record Partition : Type 0 where
   pub size : ℕ
   pub radius : Scaled
 
--- a table: its entries ascend by id, and no id from `next` on was used yet
+-- a table: its rows, and the id of the next row
 pub record Table : Type 0 where
   pub name : List ℕ
   pub columns : List Column
@@ -48,7 +47,7 @@ with_table new [] = []
 with_table new (table ∷ tables) =
     if bytes_eq table.name new.name then new ∷ tables else table ∷ with_table new tables
 
--- the tables with their columns, and a table's rows behind their ids, as queries are bound and
+-- the tables with their columns, and a table's rows after their ids, as queries are bound and
 -- asked
 abbrev pub schemas : State → List (List ℕ × List Column)
 schemas state = map (λ (table : Table). (table.name, table.columns)) state.tables

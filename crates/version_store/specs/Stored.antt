@@ -17,7 +17,7 @@ use Rattle.version_store.specs.declared.faults.CommitKind.TheVariants.{LimitRows
 use Rattle.version_store.specs.declared.limits.TheConstants.{MAX_VERSION, MAX_COMMIT_ROWS}
 use Rattle.version_store.specs.declared.limits.TheConstants.{MAX_ENTRIES}
 
--- a table as it is kept beside its columns: its next id, and its rows behind their ids
+-- a table as it is kept beside its columns: its next id, and its rows after their ids
 pub record Listed : Type 0 where
   pub next : ℕ
   pub rows : List (ℕ × List Cell)

@@ -8,7 +8,7 @@ use std::alloc::{AllocError, Global};
 use std::marker::Model;
 use table_schema::{Row, Schema, check_row};
 
-/// The rows of a table behind their ids, and the id of its next row.
+/// The rows of a table after their ids, and the id of its next row.
 #[derive(Drop)]
 pub(crate) struct TableRows {
     next: u64,
@@ -43,7 +43,7 @@ impl TableRows {
         self.next
     }
 
-    /// The rows behind their ids.
+    /// The rows after their ids.
     pub(crate) fn rows(&self) -> &[(u64, Row)]
         ensures { result.now ≡ self.now.rows }
     {

@@ -84,7 +84,7 @@ impl VersionStore {
         &self.schemas
     }
 
-    /// The rows of a table behind their ids, or None if there is no such table.
+    /// The rows of a table after their ids, or None if there is no such table.
     pub fn rows(&self, table: &[u8]) -> Option<&[(u64, Row)]>
         ensures value { option_copied result ≡ rows_named table.now (replay self.now).tables }
         ensures ids { IfSome result (λ rows. AscendsFrom 0 rows.now) }

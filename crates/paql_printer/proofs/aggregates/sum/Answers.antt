@@ -1,4 +1,4 @@
--- One term more, behind its sign.
+-- One term more, after its sign.
 use Rattle.std.proofs.Common.{arith}
 use Rattle.paql_printer.proofs.ListLemmas.{sum_step}
 use Rattle.paql_printer.proofs.aggregates.sum.Goals as goal

@@ -1,4 +1,4 @@
--- The front so far has the terms so far.
+-- The prefix so far has the terms so far.
 use Rattle.std.proofs.Common.{◌≡◌, take}
 use Rattle.paql_printer.specs.Print as print
 use Rattle.paql_printer.specs.Fronts.{written}

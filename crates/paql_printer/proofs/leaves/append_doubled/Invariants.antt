@@ -1,4 +1,4 @@
--- The front so far has the bytes so far, with their quotes doubled.
+-- The prefix so far has the bytes so far, with their quotes doubled.
 use Rattle.std.proofs.Common.{◌≡◌, take}
 use Rattle.paql_lexer.specs.Lexical.{doubled}
 use Rattle.paql_printer.specs.Fronts.{more}

@@ -1,4 +1,4 @@
--- One constraint more, behind its AND.
+-- One constraint more, after its AND.
 use Rattle.std.proofs.Common.{ap, ◌∙◌, arith}
 use Rattle.paql_lexer.specs.declared.vocabulary.Kind.TheVariants as kinds
 use Rattle.paql_ast.specs.declared.queries.Conjunct.{Conjunct}

@@ -1,4 +1,4 @@
--- The front so far has the constraints so far.
+-- The prefix so far has the constraints so far.
 use Rattle.std.proofs.Common.{◌≡◌, take}
 use Rattle.paql_lexer.specs.declared.vocabulary.Kind.TheVariants as kinds
 use Rattle.paql_printer.specs.Print as print

@@ -1,4 +1,4 @@
--- The two tables, one behind the other, are the table of the definition.
+-- The two tables, one after the other, are the table of the definition.
 use Rattle.std.proofs.Common.{◌==◌, length, ◌∙◌, sym, ap, ℕ, List}
 use Rattle.paql_printer.proofs.SpellingLemmas.{behind_signs, among_signs}
 use Rattle.paql_printer.proofs.spellings.spelling.Goals as goal

@@ -1,4 +1,4 @@
--- The kind stands in the rest of the table just where it stands in the whole.
+-- The kind is in the rest of the table just where it is in the whole.
 use Rattle.std.proofs.Common.{◌≡◌, length, map}
 use Rattle.paql_printer.specs.Spellings.{spelling_in}
 use Rattle.paql_printer.proofs.spellings.spelling_in.Given as goal

@@ -1,7 +1,7 @@
 use Rattle.std.proofs.Common.{◌≡◌, ◌*◌, ◌^◌, ◌≤◌, ℕ}
 use Rattle.pq_base.proofs.scaled.without_zeros.Given as goal
 
--- what stands left is the same number
+-- what is left is the same number
 pub record IsStripping (magnitude scale rest places : ℕ) : Type 0 where
   pub same : rest * 10 ^ scale ≡ magnitude * 10 ^ places
   pub smaller : rest ≤ magnitude
