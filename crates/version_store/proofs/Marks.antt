@@ -16,7 +16,7 @@ or_right : (a b : Bool) → b ≡ true → (a || b) ≡ true
 or_right true b e = refl
 or_right false b e = e
 
-or_wider : (a b c : Bool) → (b ≡ true → c ≡ true) → (a || b) ≡ true → (a || c) ≡ true
+pub or_wider : (a b c : Bool) → (b ≡ true → c ≡ true) → (a || b) ≡ true → (a || c) ≡ true
 or_wider true b c f e = refl
 or_wider false b c f e = f e
 
@@ -32,11 +32,11 @@ pub marked_wider : (mark : Mark) (xs ys zs : List Mark) → (is_marked mark ys �
 marked_wider mark [] ys zs f e = f e
 marked_wider mark (x ∷ xs) ys zs f e = or_wider (is_mark mark x) (is_marked mark (xs ++ ys)) (is_marked mark (xs ++ zs)) (marked_wider mark xs ys zs f) e
 
-neither : (mark : Mark) (xs ys : List Mark) → is_marked mark xs ≡ false → is_marked mark ys ≡ false → is_marked mark (xs ++ ys) ≡ false
+pub neither : (mark : Mark) (xs ys : List Mark) → is_marked mark xs ≡ false → is_marked mark ys ≡ false → is_marked mark (xs ++ ys) ≡ false
 neither mark [] ys e f = f
 neither mark (x ∷ xs) ys e f = or_none (is_mark mark x) (is_marked mark xs) (is_marked mark (xs ++ ys)) (λ given. neither mark xs ys given f) e
 
-is_mark_self : (mark : Mark) → is_mark mark mark ≡ true
+pub is_mark_self : (mark : Mark) → is_mark mark mark ≡ true
 is_mark_self mark = rw (names_same mark.table mark.table refl, eq-eqb mark.id mark.id refl, eq-eqb mark.born mark.born refl) refl
 
 -- ---- lists within lists
@@ -71,7 +71,7 @@ abbrev pub Fresh : List Mark → Type 0
 Fresh [] = Unit {0}
 Fresh (mark ∷ marks) = (is_marked mark marks ≡ false) × Fresh marks
 
-distinct_fresh : (xs : List Mark) → Fresh xs → distinct xs ≡ xs
+pub distinct_fresh : (xs : List Mark) → Fresh xs → distinct xs ≡ xs
 distinct_fresh [] fresh = refl
 distinct_fresh (x ∷ xs) fresh = rw fresh.0 (ap (λ (rest : List Mark). x ∷ rest) (distinct_fresh xs fresh.1))
 

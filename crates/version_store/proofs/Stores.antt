@@ -75,7 +75,7 @@ kept_count states change kept growing e =
     kept_is states new (follows.low ∙ kept.low) (within_new states new (rows_inserted change) kept follows) (fresh_tables new.tables follows.grows.ids follows.grows.names)
     ∙ follows.grows.total
 
-above_none : (most number : ℕ) (fault : ℕ → CommitKind) → above most number fault ≡ [] → number ≤ most
+pub above_none : (most number : ℕ) (fault : ℕ → CommitKind) → above most number fault ≡ [] → number ≤ most
 above_none most number fault e = by_test (ltb most number) refl
   where
     by_test : (b : Bool) → ltb most number ≡ b → number ≤ most

@@ -5,5 +5,7 @@ pub mod Histories
 pub mod Built
 pub mod Answers
 pub mod Stored
+pub mod Legal
+pub mod Counted
 pub mod Laws
 pub mod Worked
