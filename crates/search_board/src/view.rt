@@ -2,7 +2,7 @@
 use atomic_table::{Join, Play, Split, TableRule};
 use std::collections::LinkedList;
 
-/// What a seat at the board knows. It stands in the proofs alone: no value of it is made.
+/// What a seat at the board knows. It is for proofs alone: no value of it is made.
 pub struct BoardView {
     /// Of the board's 64 parts, how many the seat has.
     pub parts: u64,
