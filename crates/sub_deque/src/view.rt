@@ -3,7 +3,7 @@ use crossbeam_deque::protocol::{Join, Outcome, Protocol, Split};
 use lin_bound::Path;
 use std::collections::LinkedList;
 
-/// What an end of a lane knows. It stands in the proofs alone: no value of it is made.
+/// What an end of a lane knows. It is for proofs alone: no value of it is made.
 pub struct LaneView {
     /// Whether it is the owner's end.
     pub owns: bool,
