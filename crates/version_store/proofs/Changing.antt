@@ -1,6 +1,6 @@
 -- What any change does to the tables: names stay apart, ids ascend, and each entry is one that was there or is new.
-use Rattle.std.proofs.Common.{◌≡◌, ℕ, suc, ◌+◌, ◌-◌, ◌<◌, ◌≤◌, Bool, true, false, cond, leb, List, [], ◌∷◌, ◌++◌, length, length-append, Option, Some, None, refl, sym, ap, subst, ◌∙◌, arith}
-use Rattle.std.specs.Prelude.{map, filter, not, ◌&&◌}
+use Rattle.std.proofs.Common.{◌≡◌, ℕ, suc, ◌+◌, ◌<◌, ◌≤◌, Bool, true, false, cond, leb, List, [], ◌∷◌, ◌++◌, length, length-append, Option, Some, None, refl, sym, ap, subst, arith}
+use Rattle.std.specs.Prelude.{map, filter, not}
 use Rattle.std.specs.List.{AllByRecursion}
 use Rattle.std.specs.Str.{bytes_eq}
 use Rattle.std.proofs.lemmas.List.{map-append, length-map}
@@ -16,7 +16,6 @@ use Rattle.version_store.specs.Built.{AscendsTo, AreApart}
 use Rattle.version_store.specs.Histories.{Mark, marks_of_table}
 use Rattle.version_store.specs.declared.changes.Change.{Change}
 use Rattle.version_store.specs.declared.changes.Change.TheVariants as changes
-use Rattle.version_store.specs.declared.faults.CommitKind.{CommitKind}
 use Rattle.version_store.specs.declared.limits.TheConstants.{MAX_TABLES}
 use Rattle.version_store.proofs.Lists.{both_empty, map_empty, all_append, all_at, names_equal}
 use Rattle.version_store.proofs.Marks.{HasIds, mark_of, entry_marks, name_of_table}

@@ -1,22 +1,21 @@
 -- How many entries are kept, version by version.
-use Rattle.std.proofs.Common.{◌≡◌, ◌≢◌, ℕ, zero, suc, ◌+◌, ◌-◌, ◌<◌, ◌≤◌, ◌⊎◌, inl, inr, Bool, true, false, not, eqb, List, [], ◌∷◌, ◌++◌, length, length-append, drop, get_or, refl, sym, ap, subst, ◌∙◌, append_assoc, append-nil, arith, filter}
+use Rattle.std.proofs.Common.{◌≡◌, ◌≢◌, ℕ, zero, suc, ◌+◌, ◌-◌, ◌<◌, ◌≤◌, ◌⊎◌, inl, inr, Bool, true, false, eqb, List, [], ◌∷◌, ◌++◌, length, length-append, drop, get_or, refl, sym, ap, subst, ◌∙◌, append_assoc, append-nil, arith}
 use Rattle.std.specs.Prelude.{map, flat_map, ◌||◌}
 use Rattle.std.specs.List.{AllByRecursion}
 use Rattle.std.proofs.lemmas.List.{drop-append-le}
 use Rattle.std.proofs.lemmas.Bool.Decides.{eqb_tells}
 use Rattle.std.proofs.Math.Seq.{drop-cons}
 use Rattle.std.proofs.lemmas.List.Concat.{flat_map-append}
-use borrow.Author.Tests.{eq-eqb}
-use Rattle.version_store.specs.States.{Entry, Table, State, nothing}
+use Rattle.version_store.specs.States.{Table, State, nothing}
 use Rattle.version_store.specs.Changes.{changed}
 use Rattle.version_store.specs.Built.{AreApart}
-use Rattle.version_store.specs.Histories.{Commit, History, Mark, is_mark, is_marked, distinct, marks, marks_of_table, entries_kept, last_of, last_state, new_version, after, after_changes, all_faults, states_after, states_of, replay, commit_faults, AreAccepted, IsHistory}
-use Rattle.version_store.specs.Counted.{fresh, all_fresh, counted, IsWilling, with_commit, low_of, Counts, CountedHistory}
+use Rattle.version_store.specs.Histories.{Commit, History, Mark, is_mark, is_marked, distinct, marks, marks_of_table, entries_kept, last_of, last_state, after, after_changes, all_faults, states_after, states_of, commit_faults, AreAccepted, IsHistory}
+use Rattle.version_store.specs.Counted.{fresh, all_fresh, counted, IsWilling, with_commit, Counts, CountedHistory}
 use Rattle.version_store.specs.declared.changes.Change.{Change}
 use Rattle.version_store.specs.declared.faults.CommitKind.TheVariants.{LimitRows}
 use Rattle.version_store.specs.declared.limits.TheConstants.{MAX_ENTRIES}
-use Rattle.version_store.proofs.Lists.{all_map, all_append, tests_apart}
-use Rattle.version_store.proofs.Marks.{Includes, AreWithin, Fresh, HasIds, name_of_table, distinct_fresh, marked_right, within_self, fresh_tables, last_more}
+use Rattle.version_store.proofs.Lists.{all_map, all_append}
+use Rattle.version_store.proofs.Marks.{Includes, Fresh, HasIds, name_of_table, distinct_fresh, marked_right, within_self, fresh_tables, last_more}
 use Rattle.version_store.proofs.Stores.{above_none}
 use Rattle.version_store.proofs.Changing.{Marked, names_changed, ids_changed, low_changed, marks_changed}
 use Rattle.version_store.proofs.Legally.{BornBy, first_faultless, taken}

@@ -1,9 +1,9 @@
 -- How many distinct marks two lists have together.
-use Rattle.std.proofs.Common.{◌≡◌, ◌≢◌, ℕ, suc, ◌+◌, ◌<◌, ◌≤◌, Bool, true, false, cond, not, eqb, List, [], ◌∷◌, ◌++◌, length, refl, sym, ap, subst, ◌∙◌, arith, filter}
+use Rattle.std.proofs.Common.{◌≡◌, ℕ, suc, ◌+◌, ◌≤◌, Bool, true, false, cond, not, eqb, List, [], ◌∷◌, ◌++◌, length, refl, sym, ap, subst, ◌∙◌, arith, filter}
 use Rattle.std.specs.Prelude.{◌&&◌, ◌||◌}
 use Rattle.std.specs.List.{AllByRecursion}
 use Rattle.std.specs.Str.{bytes_eq}
-use borrow.Author.Tests.{ne_eqb, eqb-true}
+use borrow.Author.Tests.{eqb-true}
 use Rattle.version_store.specs.Histories.{Mark, is_mark, is_marked, distinct}
 use Rattle.version_store.proofs.Lists.{names_equal, tests_apart}
 use Rattle.version_store.proofs.Marks.{Fresh, distinct_fresh, is_mark_self, marked_right, neither, or_wider}
@@ -77,6 +77,7 @@ one_fewer x xs (y ∷ ys) fresh away among = by_test (is_mark x y) refl (one_few
     by_rest : (b : Bool) → length (filter (is_new xs) ys) ≡ suc (length (filter (is_new (x ∷ xs)) ys)) → length (cond (not b) (y ∷ filter (is_new xs) ys) (filter (is_new xs) ys)) ≡ suc (length (cond (not b) (y ∷ filter (is_new (x ∷ xs)) ys) (filter (is_new (x ∷ xs)) ys)))
     by_rest true rest = rest
     by_rest false rest = ap suc rest
+
     by_test : (b : Bool) → is_mark x y ≡ b → (is_marked x ys ≡ true → length (filter (is_new xs) ys) ≡ suc (length (filter (is_new (x ∷ xs)) ys))) → length (filter (is_new xs) (y ∷ ys)) ≡ suc (length (filter (is_new (x ∷ xs)) (y ∷ ys)))
     by_test true is rest =
         let same : x ≡ y = mark_same x y is in

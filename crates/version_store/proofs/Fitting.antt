@@ -1,5 +1,5 @@
 -- Any change leaves rows that fit their columns.
-use Rattle.std.proofs.Common.{◌≡◌, ℕ, suc, ◌+◌, ◌<◌, Bool, true, false, cond, List, [], ◌∷◌, length, set, Option, Some, None, Result, Ok, Err, refl, ap, ◌∙◌, arith}
+use Rattle.std.proofs.Common.{◌≡◌, ℕ, suc, ◌+◌, Bool, true, false, cond, List, [], ◌∷◌, set, Option, Some, None, Result, Ok, Err, refl, ap, ◌∙◌, arith}
 use Rattle.std.specs.Prelude.{map, filter, not}
 use Rattle.std.specs.List.{AllByRecursion, position_from}
 use Rattle.std.specs.Str.{bytes_eq}
@@ -111,11 +111,11 @@ fits_changed version high state (changes.Create name columns) e some all =
     all_append Fits state.tables (new_table name columns ∷ []) all (record { columns = is_schema columns some (created_schema state name columns e); rows = tt }, tt)
 fits_changed version high state (changes.Insert name rows) e some all = all_on Fits state name (λ (found : Table). inserted found version rows)
     (λ table is fits.
-      let faultless : insert_faults table.columns 1 rows ≡ [] = rw is at e in
-      record {
-        columns = fits.columns;
-        rows = all_append (EntryFits table.columns) table.entries (new_entries table.columns version table.next rows) fits.rows (new_fit table.columns version table.next 1 rows faultless);
-      }) all
+    let faultless : insert_faults table.columns 1 rows ≡ [] = rw is at e in
+    record {
+      columns = fits.columns;
+      rows = all_append (EntryFits table.columns) table.entries (new_entries table.columns version table.next rows) fits.rows (new_fit table.columns version table.next 1 rows faultless);
+    }) all
 fits_changed version high state (changes.Update name sets written) e some all = all_on Fits state name (λ (found : Table). with_entries found (map (updated found version sets written) found.entries))
     (λ table is fits. record { columns = fits.columns; rows = all_mapped (EntryFits table.columns) (updated table version sets written) table.entries (updated_fits table version sets written) fits.rows }) all
 fits_changed version high state (changes.Delete name written) e some all = all_on Fits state name (λ (found : Table). with_entries found (filter (λ (entry : Entry). not (is_met found written entry)) found.entries))

@@ -1,5 +1,5 @@
 -- Histories of any changes leave legal tables.
-use Rattle.std.proofs.Common.{◌≡◌, ℕ, suc, ◌+◌, ◌-◌, ◌≤◌, List, [], ◌∷◌, ◌++◌, length, length-append, refl, sym, ap, subst, arith}
+use Rattle.std.proofs.Common.{◌≡◌, ℕ, suc, ◌+◌, ◌-◌, ◌≤◌, List, [], ◌∷◌, ◌++◌, length, length-append, refl, sym, subst, arith}
 use Rattle.std.specs.Prelude.{map}
 use Rattle.std.specs.List.{AllByRecursion}
 use Rattle.version_store.specs.States.{Entry, Table, State, nothing}
@@ -10,12 +10,10 @@ use Rattle.version_store.specs.Legal.{HasColumns, HaveColumns, IsLegal, AreLegal
 use Rattle.version_store.specs.Counted.{IsWilling}
 use Rattle.version_store.specs.Stored.{version_faults}
 use Rattle.version_store.specs.declared.changes.Change.{Change}
-use Rattle.version_store.specs.declared.faults.CommitFault.{CommitFault}
-use Rattle.version_store.specs.declared.faults.CommitKind.{CommitKind}
 use Rattle.version_store.specs.declared.faults.CommitKind.TheVariants.{LimitCommit, LimitRows}
-use Rattle.version_store.specs.declared.limits.TheConstants.{MAX_TABLES, MAX_COMMIT_ROWS, MAX_ENTRIES}
+use Rattle.version_store.specs.declared.limits.TheConstants.{MAX_COMMIT_ROWS, MAX_ENTRIES}
 use Rattle.version_store.proofs.Lists.{both_empty, map_empty, all_map}
-use Rattle.version_store.proofs.Marks.{HasIds, last_more, mark_of, entry_marks}
+use Rattle.version_store.proofs.Marks.{HasIds, last_more, entry_marks}
 use Rattle.version_store.proofs.Changing.{Marked, names_changed, few_changed, ids_changed, marks_changed}
 use Rattle.version_store.proofs.Fitting.{Fits, fits_changed}
 
@@ -34,9 +32,10 @@ marks_born version name (entry ∷ entries) all = (all.0, marks_born version nam
 
 legal_each : (version : ℕ) (tables : List Table) → AllByRecursion HasIds tables → AllByRecursion Fits tables → AllByRecursion (Marked (BornBy version)) tables → AllByRecursion (IsLegal version) tables
 legal_each version [] ids fits born = tt
-legal_each version (table ∷ tables) ids fits born =
-    (record { columns = fits.0.columns; ids = ids.0; rows = fits.0.rows; born = marks_born version table.name table.entries born.0 },
-    legal_each version tables ids.1 fits.1 born.1)
+legal_each version (table ∷ tables) ids fits born = (
+  record { columns = fits.0.columns; ids = ids.0; rows = fits.0.rows; born = marks_born version table.name table.entries born.0 },
+  legal_each version tables ids.1 fits.1 born.1,
+)
 
 pub legal_change : (version high : ℕ) (state : State) (change : Change) → AreLegal version state.tables → HasColumns change → change_faults high state change ≡ [] → AreLegal version (changed version state change).tables
 legal_change version high state change are some e =
@@ -86,11 +85,11 @@ taken states commit e =
 legal_later : (one other : ℕ) (tables : List Table) → one ≤ other → AreLegal one tables → AreLegal other tables
 legal_later one other tables later are = record {
   each = all_map (IsLegal one) (IsLegal other) tables (λ (table : Table) (is : IsLegal one table). record {
-      columns = is.columns;
-      ids = is.ids;
-      rows = is.rows;
-      born = all_map (λ (entry : Entry). entry.born ≤ one) (λ (entry : Entry). entry.born ≤ other) table.entries (λ (entry : Entry) (born : entry.born ≤ one). let wide : entry.born ≤ other = omega (arith, later, born) in wide) is.born;
-    }) are.each;
+    columns = is.columns;
+    ids = is.ids;
+    rows = is.rows;
+    born = all_map (λ (entry : Entry). entry.born ≤ one) (λ (entry : Entry). entry.born ≤ other) table.entries (λ (entry : Entry) (born : entry.born ≤ one). let wide : entry.born ≤ other = omega (arith, later, born) in wide) is.born;
+  }) are.each;
   names = are.names;
   few = are.few;
 }

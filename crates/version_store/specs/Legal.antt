@@ -1,13 +1,13 @@
 -- Private: the laws `legal_changes` and `legal_histories` in `src/laws.rt`.
 -- What the tables of a history are, whatever its changes.
-use Rattle.std.specs.Prelude.{◌≡◌, ℕ, suc, ◌<◌, ◌≤◌, List, [], map, length}
+use Rattle.std.specs.Prelude.{◌≡◌, ℕ, ◌<◌, ◌≤◌, List, [], map, length}
 use Rattle.std.specs.List.{AllByRecursion}
 use Rattle.table_schema.specs.Columns.{IsSchema}
 use Rattle.table_schema.specs.Rows.{FitsSchema}
 use Rattle.version_store.specs.States.{Entry, Table, State}
 use Rattle.version_store.specs.Faults.{change_faults}
 use Rattle.version_store.specs.Changes.{changed}
-use Rattle.version_store.specs.Histories.{Commit, History, replay, IsHistory}
+use Rattle.version_store.specs.Histories.{History, replay, IsHistory}
 use Rattle.version_store.specs.Built.{AscendsTo, AreApart}
 use Rattle.version_store.specs.declared.changes.Change.{Change}
 use Rattle.version_store.specs.declared.changes.Change.TheVariants as changes
