@@ -1,14 +1,14 @@
 -- Each step keeps the account of a lane.
-use Rattle.std.proofs.Common.{◌≡◌, ◌≢◌, ◌⊎◌, ℕ, zero, suc, ◌≤◌, Bool, true, false, true≢false, List, [], ◌∷◌, ◌++◌, length, set, sym, refl, ap, ◌∙◌, subst, ⊎_elim, append_assoc, append-nil, arith}
+use Rattle.std.proofs.Common.{◌≡◌, ◌≢◌, ℕ, zero, suc, ◌≤◌, true, true≢false, List, [], ◌∷◌, ◌++◌, length, set, sym, refl, ap, ◌∙◌, subst, ⊎_elim, append_assoc, append-nil, arith}
 use Rattle.std.specs.Prelude.{IsPermutation}
 use Rattle.std.proofs.lemmas.List.Sorted.{IsPermutation-refl, IsPermutation-trans, IsPermutation-append_left, IsPermutation-append_right, IsPermutation-append_comm}
-use mathlib.Core.Option.{some, some-injective, some-ne-none}
+use mathlib.Core.Option.{some, some-ne-none}
 use lib.ListN.{get_elem?}
-use Rattle.crossbeam_deque.specs.Tasks.{Pushes, Takes, Pops, Finds, FindsFew, Forks, Merges}
+use Rattle.crossbeam_deque.specs.Tasks.{Pushes, Takes, Pops, Forks, Merges}
 use Rattle.crossbeam_deque.proofs.Lists.{at_set, at_snoc}
 use Rattle.lin_bound.specs.declared.path.Branch.{Branch}
 use Rattle.sub_deque.specs.declared.view.LaneView.{LaneView}
-use Rattle.sub_deque.specs.Views.{Paths, view, whole_view, first_view, owner_view, thief_view, guest_view, pushing, popping, stealing}
+use Rattle.sub_deque.specs.Views.{Paths, whole_view, first_view, owner_view, thief_view, guest_view, pushing, popping, stealing}
 use Rattle.sub_deque.specs.Rule.{IsAccount, Fits, Kept, Moment}
 
 abbrev pub Each : (ℕ → LaneView → Type 0) → List LaneView → Type 0

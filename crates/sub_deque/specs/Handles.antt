@@ -1,8 +1,7 @@
 -- Private: a lane of open paths, which the program does not use yet: its ends as values.
 -- The two ends of a lane as contracts see them.
-use Rattle.std.specs.Prelude.{ℕ, List}
+use Rattle.std.specs.Prelude.{ℕ}
 use Rattle.std.specs.declared.alloc.Global.{Global}
-use Rattle.lin_bound.specs.declared.path.Branch.{Branch}
 use Rattle.sub_deque.specs.Views.{Paths}
 
 -- which lane it is

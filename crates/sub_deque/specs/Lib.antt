@@ -2,3 +2,4 @@ pub mod Views
 pub mod Rule
 pub mod Handles
 pub mod Answers
+pub mod Stations

@@ -67,7 +67,7 @@ impl Model for LaneThief {
 #[derive(Debug, Drop)]
 pub enum Stolen {
     Got(Path),
-    /// At a moment of the call at most one path was in the lane, and the owner may have been popping it.
+    /// At a moment of the call at most one path was in the lane; the owner may have been popping it.
     Empty,
     /// The same, or paths left the lane since the thief looked last.
     Retry,
@@ -88,7 +88,8 @@ impl Lane {
 }
 
 impl LaneOwner {
-    /// Puts a path last. It comes back if there is no memory for it, or if the lane is at its greatest size.
+    /// Puts a path last. It comes back if there is no memory for it, or the lane is at its greatest
+    /// size.
     pub fn push(&mut self, node: Path) -> Result<(), (Path, AllocError)>
         ensures { MatchResult result
             (λ _. self.new ≡ owner_end self.old.lane (self.old.put ++ node ∷ []) self.old.popped)

@@ -10,3 +10,5 @@ pub use view::LaneView;
 
 #[cfg(test)]
 mod tests;
+#[cfg(test)]
+mod trial;

@@ -1,8 +1,11 @@
 //! What the two ends of a lane answer, and two threads at one lane.
-ghost use Rattle.std.specs.Prelude.{◌≡◌, IfOk};
+ghost use Rattle.std.specs.Prelude.{◌≡◌, IfOk, IfSome};
+ghost use Rattle.search_board.specs.Values.{IsSmall};
 
+use super::trial::{Judge, Station, node};
 use super::*;
 use lin_bound::{Branch, Path};
+use search_board::{Board, BoardSeat};
 use std::alloc::{AllocError, Global};
 use std::test::*;
 use std::thread::{Threads, join};
@@ -133,5 +136,66 @@ fn two_threads_take_each_path_once(rt: HostRuntime) -> Result<(), Fail> {
     for index in 0..1000u64 {
         assert_eq!(rt; all.get(index as usize).copied(), Some(index));
     }
+    Ok(())
+}
+
+/// Splits every box of fewer than three branches, and knows a value for each box.
+struct ThreeDeep;
+
+impl Judge for ThreeDeep {
+    fn value(&self, path: &Path) -> Option<i64>
+        ensures { IfSome result (λ value. IsSmall value) }
+    {
+        if path.len() < 3 { Some(1) } else { Some(2) }
+    }
+
+    fn cut(&self, path: &Path, _seen: Option<i64>) -> Option<(u32, u64)> {
+        if path.len() < 3 { Some((0, 7)) } else { None }
+    }
+}
+
+fn take_turns(
+    alloc: Global,
+    board: &Board,
+    seat: &mut BoardSeat,
+    station: &mut Station,
+    turns: u32,
+) -> Result<(), AllocError>
+    requires { seat.old.board ≡ board.now }
+    ensures { seat.new.board ≡ board.now }
+{
+    for _ in 0..turns {
+        node(alloc, board, seat, station, &ThreeDeep)?;
+    }
+    Ok(())
+}
+
+/// How many nodes one thread does in so many turns, what it keeps then, and what the board says.
+fn done_alone(
+    alloc: Global,
+    budget: u32,
+    turns: u32,
+) -> Result<(usize, usize, Option<i64>), AllocError> {
+    let (board, mut seat) = Board::new(alloc, budget)?;
+    let (owner, _own_thief) = Lane::new(alloc)?;
+    let (_other_owner, thief) = Lane::new(alloc)?;
+    let mut left = Vec::new(alloc);
+    left.push(Path::new(alloc))?;
+    let mut station = Station {
+        done: Vec::new(alloc),
+        left,
+        owner,
+        thief,
+    };
+    take_turns(alloc, &board, &mut seat, &mut station, turns)?;
+    let best = board.look(&mut seat);
+    Ok((station.done.len(), station.left.len(), best))
+}
+
+#[test]
+fn one_thread_does_all_nodes(rt: HostRuntime) -> Result<(), Fail> {
+    assert_eq!(rt; done_alone(rt.alloc(), 100, 40)?, (15, 0, Some(2)));
+    assert_eq!(rt; done_alone(rt.alloc(), 6, 6)?, (6, 0, Some(2)));
+    assert_eq!(rt; done_alone(rt.alloc(), 0, 1)?, (0, 1, Some(1)));
     Ok(())
 }

@@ -1,7 +1,7 @@
 use Rattle.sub_deque.specs.Rule.{IsAccount}
-use Rattle.std.proofs.Common.{rules, ◌≡◌, sym, refl, ap, ◌∙◌, subst, true}
+use Rattle.std.proofs.Common.{rules, sym, ap, subst}
 use Rattle.sub_deque.specs.declared.view.LaneView.{LaneView}
-use Rattle.sub_deque.proofs.Accounts.{begins, pops, steals, splits, joins, drained}
+use Rattle.sub_deque.proofs.Accounts.{pops, joins, drained}
 use Rattle.sub_deque.proofs.lane.drain_joined.Goals as goal
 
 pub absorb-requires-clause-rule : goal.absorb-requires-clause-rule
