@@ -9,7 +9,9 @@ use Rattle.schema_types.specs.declared.Column.{Column}
 use Rattle.schema_types.specs.declared.Lit.{Lit}
 use Rattle.paql_ast.specs.declared.conditions.Pred.{Pred}
 use Rattle.table_schema.specs.Columns.{schema_faults}
-use Rattle.version_store.specs.States.{Entry, Table, State, table_named, with_table}
+use Rattle.snapshots.specs.Entries.{Entry}
+use Rattle.snapshots.specs.States.{State, table_named, with_table}
+use Rattle.snapshots.specs.declared.tables.Table.{Table}
 use Rattle.version_store.specs.Faults.{made_fault, exists_faults, tables_faults, create_faults, change_faults, vacuum_faults}
 use Rattle.version_store.specs.Changes.{changed, on_table, on_named, inserted, new_entries, new_table, updated, is_met, put_all, with_entries, cut}
 use Rattle.version_store.specs.Built.{AscendsTo, AreApart}

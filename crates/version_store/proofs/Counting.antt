@@ -6,7 +6,8 @@ use Rattle.std.proofs.lemmas.List.{drop-append-le}
 use Rattle.std.proofs.lemmas.Bool.Decides.{eqb_tells}
 use Rattle.std.proofs.Math.Seq.{drop-cons}
 use Rattle.std.proofs.lemmas.List.Concat.{flat_map-append}
-use Rattle.version_store.specs.States.{Table, State, nothing}
+use Rattle.snapshots.specs.States.{State, nothing}
+use Rattle.snapshots.specs.declared.tables.Table.{Table}
 use Rattle.version_store.specs.Changes.{changed}
 use Rattle.version_store.specs.Built.{AreApart}
 use Rattle.version_store.specs.Histories.{Commit, History, Mark, is_mark, is_marked, distinct, marks, marks_of_table, entries_kept, last_of, last_state, after, after_changes, all_faults, states_after, states_of, commit_faults, AreAccepted, IsHistory}

@@ -14,7 +14,9 @@ use Rattle.table_schema.specs.declared.cells.Cell.{Cell}
 use Rattle.table_schema.specs.declared.cells.CellFault.{CellFault}
 use Rattle.table_schema.proofs.RowLemmas.{row_fits}
 use Rattle.table_schema.proofs.ColumnLemmas.{is_schema}
-use Rattle.version_store.specs.States.{Entry, Table, State}
+use Rattle.snapshots.specs.Entries.{Entry}
+use Rattle.snapshots.specs.States.{State}
+use Rattle.snapshots.specs.declared.tables.Table.{Table}
 use Rattle.version_store.specs.Faults.{change_faults, insert_faults, column_named}
 use Rattle.version_store.specs.Changes.{changed, inserted, new_entries, new_table, updated, is_met, put_cell, put_in, put, put_all, with_entries, cut}
 use Rattle.version_store.specs.Legal.{HasColumns}

@@ -2,7 +2,9 @@
 use Rattle.std.proofs.Common.{◌≡◌, ℕ, suc, ◌+◌, ◌-◌, ◌≤◌, List, [], ◌∷◌, ◌++◌, length, length-append, refl, sym, subst, arith}
 use Rattle.std.specs.Prelude.{map}
 use Rattle.std.specs.List.{AllByRecursion}
-use Rattle.version_store.specs.States.{Entry, Table, State, nothing}
+use Rattle.snapshots.specs.Entries.{Entry}
+use Rattle.snapshots.specs.States.{State, nothing}
+use Rattle.snapshots.specs.declared.tables.Table.{Table}
 use Rattle.version_store.specs.Faults.{change_faults}
 use Rattle.version_store.specs.Changes.{changed}
 use Rattle.version_store.specs.Histories.{Commit, History, Mark, above, numbered, last_state, new_version, insert_count, entries_kept, after, after_changes, all_faults, states_after, replay, commit_faults, AreAccepted, IsHistory}

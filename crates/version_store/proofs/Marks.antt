@@ -4,10 +4,12 @@ use Rattle.std.specs.Prelude.{map, flat_map, ◌&&◌, ◌||◌}
 use Rattle.std.specs.List.{AllByRecursion}
 use Rattle.std.proofs.lemmas.List.Concat.{flat_map-append}
 use borrow.Author.Tests.{ne_eqb}
-use Rattle.version_store.specs.States.{Entry, Table, State}
+use Rattle.snapshots.specs.Entries.{Entry}
+use Rattle.snapshots.specs.States.{State}
+use Rattle.snapshots.specs.declared.tables.Table.{Table}
 use Rattle.version_store.specs.Built.{AscendsTo, AreApart}
 use Rattle.version_store.specs.Histories.{Mark, is_mark, is_marked, distinct, marks, marks_of_table, entries_kept, last_of, last_state}
-use Rattle.version_store.specs.States.{nothing}
+use Rattle.snapshots.specs.States.{nothing}
 use Rattle.version_store.proofs.Lists.{names_same, names_differ}
 
 -- ---- marks in lists

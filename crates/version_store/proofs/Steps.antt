@@ -13,7 +13,9 @@ use Rattle.table_schema.proofs.RowLemmas.{row_fits}
 use Rattle.table_schema.proofs.ColumnLemmas.{is_schema}
 use Rattle.table_schema.specs.declared.cells.Cell.{Cell}
 use Rattle.table_schema.specs.declared.rows.RowFault.{RowFault}
-use Rattle.version_store.specs.States.{Entry, Table, State, table_named}
+use Rattle.snapshots.specs.Entries.{Entry}
+use Rattle.snapshots.specs.States.{State, table_named}
+use Rattle.snapshots.specs.declared.tables.Table.{Table}
 use Rattle.version_store.specs.Faults.{made_fault, exists_faults, tables_faults, create_faults, insert_faults, of_row}
 use Rattle.version_store.specs.Changes.{cells_or_none, new_entries, inserted, new_table}
 use Rattle.version_store.specs.Built.{AscendsTo, IsTable, AreApart, AreTables}

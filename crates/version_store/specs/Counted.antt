@@ -2,7 +2,7 @@
 -- How many entries are kept, counted version by version.
 use Rattle.std.specs.Prelude.{◌≡◌, ℕ, suc, ◌+◌, ◌-◌, ◌<◌, ◌≤◌, ◌==◌, List, [], ◌∷◌, ◌++◌}
 use Rattle.std.specs.Prelude.{length, drop, filter, slice_index_or}
-use Rattle.version_store.specs.States.{State, nothing}
+use Rattle.snapshots.specs.States.{State, nothing}
 use Rattle.version_store.specs.Histories.{Commit, History, Mark, marks, states_of, after, replay}
 use Rattle.version_store.specs.Histories.{last_state, new_version, all_faults, entries_kept}
 use Rattle.version_store.specs.Histories.{IsHistory}

@@ -4,7 +4,9 @@ use Rattle.std.specs.Prelude.{◌≡◌, ℕ, ◌<◌, ◌≤◌, List, [], map,
 use Rattle.std.specs.List.{AllByRecursion}
 use Rattle.table_schema.specs.Columns.{IsSchema}
 use Rattle.table_schema.specs.Rows.{FitsSchema}
-use Rattle.version_store.specs.States.{Entry, Table, State}
+use Rattle.snapshots.specs.Entries.{Entry}
+use Rattle.snapshots.specs.States.{State}
+use Rattle.snapshots.specs.declared.tables.Table.{Table}
 use Rattle.version_store.specs.Faults.{change_faults}
 use Rattle.version_store.specs.Changes.{changed}
 use Rattle.version_store.specs.Histories.{History, replay, IsHistory}

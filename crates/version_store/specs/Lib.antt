@@ -1,4 +1,3 @@
-pub mod States
 pub mod Faults
 pub mod Changes
 pub mod Histories
