@@ -6,6 +6,7 @@ pub mod Translated
 pub mod Counts
 pub mod TermSums
 pub mod AddSteps
+pub mod ColumnSteps
 pub mod RowSteps
 pub mod Legal
 pub mod FormSteps

@@ -4,3 +4,4 @@ pub mod Linear
 pub mod Points
 pub mod Numbers
 pub mod Translation
+pub mod Columns

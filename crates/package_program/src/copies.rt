@@ -3,30 +3,34 @@ ghost use Rattle.std.specs.Prelude.{◌≡◌, ◌*◌, ◌^◌, ◌≤◌, IsTr
 ghost use Rattle.bound_query.specs.Rows.{true_on};
 ghost use Rattle.bound_query.specs.Terms.{number_in, taken_by, measured, term_value};
 ghost use Rattle.bound_query.specs.Fits.{IsBoundTerm, AreBoundTerms, agg_fits, agg_is_bound, fits_terms};
+ghost use Rattle.package_program.specs.Columns.{AreNumbersOf};
 ghost use Rattle.package_program.specs.Program.{per_copy};
 
+use crate::columns::{Columns, number_in};
 use bound_query::{BoundAgg, BoundTerm, eval};
 use table_schema::Cell;
 
-/// The number in a column, and 0 if the row has none there.
-fn number_in(column: usize, row: &[Cell]) -> i64
+/// The number that the row at this place has in a column.
+fn number_at(columns: &Columns, column: usize, place: usize, row: &[Cell]) -> i64
+    requires { AreNumbersOf columns.now place row.now }
     ensures { result ≡ number_in column row.now }
 {
-    match row.get(column) {
-        Some(Cell::Num(units)) => *units,
-        _ => 0,
+    match columns.number(column, place) {
+        Some(number) => number,
+        None => number_in(column, row),
     }
 }
 
 /// What a row that meets the aggregate's condition adds.
-fn measured(agg: &BoundAgg, row: &[Cell]) -> i64
-    requires { IsTrue (agg_fits row.now agg.now) }
+fn measured(agg: &BoundAgg, columns: &Columns, place: usize, row: &[Cell]) -> i64
+    requires fits { IsTrue (agg_fits row.now agg.now) }
+    requires kept { AreNumbersOf columns.now place row.now }
     ensures value { result ≡ measured agg.now row.now }
     ensures small { unsigned_abs result ≤ 10 ^ 12 }
 {
     match agg {
         BoundAgg::Count(_) => 1,
-        BoundAgg::Sum(column, _) => number_in(*column, row),
+        BoundAgg::Sum(column, _) => number_at(columns, *column, place, row),
     }
 }
 
@@ -62,28 +66,33 @@ fn less(product: i128, minus: i128) -> i128
 }
 
 /// What a term gives for one copy of a row.
-fn term_value(term: &BoundTerm, row: &[Cell]) -> i128
+fn term_value(term: &BoundTerm, columns: &Columns, place: usize, row: &[Cell]) -> i128
     requires bound { IsBoundTerm term.now }
     requires fits { IsTrue (agg_fits row.now term.now.agg) }
+    requires kept { AreNumbersOf columns.now place row.now }
     ensures value { result ≡ term_value term.now row.now }
     ensures small { unsigned_abs result ≤ 2 * 10 ^ 24 }
 {
     if !is_taken(&term.agg, row) {
         return 0;
     }
-    less(times(term.factor, measured(&term.agg, row)), term.minus)
+    less(
+        times(term.factor, measured(&term.agg, columns, place, row)),
+        term.minus,
+    )
 }
 
-/// What all terms give for one copy of a row.
-pub fn per_copy(terms: &[BoundTerm], row: &[Cell]) -> i128
+/// What all terms give for one copy of the row at a place of the columns.
+pub fn per_copy(terms: &[BoundTerm], columns: &Columns, place: usize, row: &[Cell]) -> i128
     requires bound { AreBoundTerms terms.now }
     requires fits { IsTrue (fits_terms row.now terms.now) }
+    requires kept { AreNumbersOf columns.now place row.now }
     ensures value { result ≡ per_copy (map term_value terms.now) row.now }
     ensures small { unsigned_abs result ≤ 2 ^ 90 }
 {
     let mut sum: i128 = 0;
     for term in terms {
-        sum += term_value(term, row);
+        sum += term_value(term, columns, place, row);
     }
     sum
 }

@@ -1,6 +1,7 @@
 //! From a package query over any rows to a bounded integer program, and from points to packages.
 #![tactic(auto)]
 
+mod columns;
 mod copies;
 mod faults;
 mod laws;

@@ -3,9 +3,11 @@ ghost use Rattle.std.specs.Prelude.{◌≡◌, ◌*◌, ◌^◌, ◌<◌, ◌≤
 ghost use Rattle.std.specs.List.{AllByRecursion};
 ghost use Rattle.bound_query.specs.Fits.{AreBoundTerms, fits_terms};
 ghost use Rattle.bound_query.specs.Terms.{term_value};
+ghost use Rattle.package_program.specs.Columns.{AreColumnsOf};
 ghost use Rattle.package_program.specs.Program.{per_copy, adds};
 ghost use Rattle.package_program.specs.Translation.{most_candidates, entries_of, SumGives};
 
+use crate::columns::Columns;
 use crate::copies::per_copy;
 use crate::faults::FormFault;
 use bound_query::BoundTerm;
@@ -42,6 +44,7 @@ pub fn adds_of(
     alloc: Global,
     terms: &[BoundTerm],
     candidates: &[&(u64, Row)],
+    columns: &Columns,
     bound: u32,
     number: u32,
 ) -> Result<Items<i64>, FormFault>
@@ -50,13 +53,14 @@ pub fn adds_of(
         (entries_of candidates.now) }
     requires few { length candidates.now ≤ most_candidates }
     requires bound { bound ≤ 1000000 }
+    requires kept { AreColumnsOf (entries_of candidates.now) columns.now }
     ensures { SumGives number bound (map term_value terms.now) (entries_of candidates.now)
         (adds bound (map term_value terms.now) (entries_of candidates.now)) result }
 {
-    let mut sum = Items::new(alloc);
+    let mut sum = Items::from_vec(Vec::with_capacity(alloc, candidates.len())?);
     let mut total: u128 = 0;
-    for candidate in candidates {
-        let adds = per_copy(terms, candidate.1.as_slice());
+    for (place, candidate) in candidates.iter().enumerate() {
+        let adds = per_copy(terms, columns, place, candidate.1.as_slice());
         total += size_of(bound, adds);
         if total > MOST_SUM {
             return Err(FormFault::TooLarge {

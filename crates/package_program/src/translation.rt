@@ -2,10 +2,12 @@
 ghost use Rattle.std.specs.Prelude.{◌≡◌, ◌≤◌, IfOk, length, map, replicate};
 ghost use Rattle.std.specs.List.{AllByRecursion};
 ghost use Rattle.bound_query.specs.Asks.{asks, AreAskedOf};
+ghost use Rattle.package_program.specs.Columns.{AreColumnsOf};
 ghost use Rattle.package_program.specs.Program.{candidates, ids_of};
 ghost use Rattle.package_program.specs.Translation.{most_candidates, entries_of, AreCandidates};
 ghost use Rattle.package_program.specs.Translation.{CostGives, RowsGive, ProgramGives, Translates};
 
+use crate::columns::Columns;
 use crate::faults::FormFault;
 use crate::linear::Linear;
 use crate::rows::{Rows, negated};
@@ -60,14 +62,17 @@ fn costs(
     alloc: Global,
     query: &BoundQuery,
     candidates: &[&(u64, Row)],
+    columns: &Columns,
 ) -> Result<Items<i64>, FormFault>
-    requires { AreCandidates query.now (entries_of candidates.now) }
+    requires rows { AreCandidates query.now (entries_of candidates.now) }
+    requires columns { AreColumnsOf (entries_of candidates.now) columns.now }
     ensures { CostGives query.now (entries_of candidates.now) result }
 {
     let Some(goal) = &query.goal else {
-        return adds_of(alloc, &[], candidates, query.row_bound, 0);
+        return adds_of(alloc, &[], candidates, columns, query.row_bound, 0);
     };
-    let sum = adds_of(alloc, goal.terms.as_slice(), candidates, query.row_bound, 0)?;
+    let terms = goal.terms.as_slice();
+    let sum = adds_of(alloc, terms, candidates, columns, query.row_bound, 0)?;
     if goal.maximize {
         Ok(sum)
     } else {
@@ -76,15 +81,21 @@ fn costs(
 }
 
 /// The rows of all conjuncts.
-fn rows_of(alloc: Global, query: &BoundQuery, candidates: &[&(u64, Row)]) -> Result<Rows, FormFault>
-    requires { AreCandidates query.now (entries_of candidates.now) }
+fn rows_of(
+    alloc: Global,
+    query: &BoundQuery,
+    candidates: &[&(u64, Row)],
+    columns: &Columns,
+) -> Result<Rows, FormFault>
+    requires rows { AreCandidates query.now (entries_of candidates.now) }
+    requires columns { AreColumnsOf (entries_of candidates.now) columns.now }
     ensures { RowsGive query.now (entries_of candidates.now) result }
 {
     let mut rows = Rows::new(alloc);
     for (place, conjunct) in query.conjuncts.as_slice().iter().enumerate() {
         let number = place as u32 + 1;
         let terms = conjunct.terms.as_slice();
-        let sum = adds_of(alloc, terms, candidates, query.row_bound, number)?;
+        let sum = adds_of(alloc, terms, candidates, columns, query.row_bound, number)?;
         rows.add(alloc, conjunct, sum)?;
     }
     Ok(rows)
@@ -99,8 +110,9 @@ fn program_of(
     requires { AreCandidates query.now (entries_of candidates.now) }
     ensures { ProgramGives query.now (entries_of candidates.now) result }
 {
-    let cost = costs(alloc, query, candidates)?;
-    let Rows { rows, rhs } = rows_of(alloc, query, candidates)?;
+    let columns = Columns::new(alloc, query, candidates)?;
+    let cost = costs(alloc, query, candidates, &columns)?;
+    let Rows { rows, rhs } = rows_of(alloc, query, candidates, &columns)?;
     let upper = uppers(alloc, candidates.len(), query.row_bound)?;
     let ids = ids_of(alloc, candidates)?;
     Ok(Linear::new(Problem::new(cost, rows, rhs, upper), ids))

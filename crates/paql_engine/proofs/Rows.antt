@@ -17,7 +17,9 @@ use Rattle.paql_bind.specs.Queries.{query_faults, bound_query_of, parts_of, boun
 use Rattle.paql_bind.proofs.SoundRows.{asked_of}
 use Rattle.version_store.specs.Answers.{IsAccepted, IsRefused, IsMemory}
 use Rattle.version_store.specs.Built.{IsTable, AreTables}
-use Rattle.version_store.specs.States.{Entry, Table, State, schemas, rows_of, table_named}
+use Rattle.snapshots.specs.Entries.{Entry}
+use Rattle.snapshots.specs.States.{State, schemas, rows_of, table_named}
+use Rattle.snapshots.specs.declared.tables.Table.{Table}
 use Rattle.version_store.specs.declared.faults.CommitFault.{CommitFault}
 use Rattle.schema_types.specs.declared.Column.{Column}
 use Rattle.schema_types.specs.declared.Lit.{Lit}

@@ -14,7 +14,7 @@ use Rattle.paql_engine.specs.State.{SessionData, tables_seen}
 use Rattle.paql_engine.specs.Steps.{Steps}
 use Rattle.session_proto.specs.Replies.{ReplyData}
 use Rattle.version_store.specs.Answers.{IsMemoryKind}
-use Rattle.version_store.specs.States.{State}
+use Rattle.snapshots.specs.States.{State}
 use Rattle.version_store.specs.declared.changes.Change.{Change}
 use Rattle.version_store.specs.declared.faults.CommitFault.{CommitFault}
 use Rattle.paql_engine.specs.declared.session.Answer.{Answer}

@@ -1,7 +1,7 @@
 -- What a session is over: the history of all commits, and its own state beside it.
 use Rattle.std.specs.Prelude.{ℕ, List, [], take, Option, None}
 use Rattle.version_store.specs.Histories.{History, replay}
-use Rattle.version_store.specs.States.{State}
+use Rattle.snapshots.specs.States.{State}
 use Rattle.version_store.specs.declared.changes.Change.{Change}
 use Rattle.query_answer.specs.declared.kept.Kept.{Kept}
 

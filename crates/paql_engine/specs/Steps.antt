@@ -9,7 +9,7 @@ use Rattle.paql_bind.specs.Queries.{query_faults, bound_query_of, parts_of}
 use Rattle.paql_bind.specs.declared.faults.Refusal.{Refusal as Fault}
 use Rattle.bound_query.specs.declared.queries.BoundQuery.{BoundQuery}
 use Rattle.version_store.specs.Histories.{History, states_of, commit_faults, row_count}
-use Rattle.version_store.specs.States.{State, schemas, rows_named}
+use Rattle.snapshots.specs.States.{State, schemas, rows_named}
 use Rattle.version_store.specs.declared.changes.Change.{Change}
 use Rattle.version_store.specs.declared.faults.CommitFault.{CommitFault}
 use Rattle.version_store.specs.declared.changes.Change.TheVariants as changes

@@ -25,7 +25,7 @@ use Rattle.search_core.specs.Moves.{IsBoxOf, IsClosing, IsSplitting, IsLowOf}
 use Rattle.search_core.specs.Kept.{path_held, one_of, nodes_of, IsKept}
 use Rattle.search_core.specs.declared.event.Hand.{Hand}
 use Rattle.search_core.specs.declared.event.Seen.TheVariants.{Looked}
-use Rattle.search_core.specs.declared.proposal.Proposal.{Proposal}
+use Rattle.simplex_proposer.specs.declared.proposal.Proposal.{Proposal}
 use Rattle.search_core.proofs.Nodes.{closed_not_better, place_splits}
 use Rattle.search_core.proofs.Table.{found_at, taken_out}
 

@@ -16,10 +16,10 @@ use crate::boxes::move_to;
 use crate::event::{Hand, Seen, Stepped};
 use crate::node::{Handled, Work, handle_node};
 use crate::open_path::OpenPath;
-use crate::proposal::Proposal;
 use crate::solved::best_value;
 use cert_tree::{Act, Record};
 use lin_bound::{Mult, Path, Point, Problem, Region};
+use simplex_proposer::Proposal;
 use std::alloc::{AllocError, Global};
 use std::marker::Model;
 

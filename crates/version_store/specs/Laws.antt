@@ -9,7 +9,8 @@ use Rattle.table_schema.specs.Named.{schema_of}
 use Rattle.table_schema.specs.Rows.{FitsSchema}
 use Rattle.table_schema.specs.declared.cells.Cell.{Cell}
 use Rattle.package_query.specs.Package.{AscendsFrom}
-use Rattle.version_store.specs.States.{Table, State, table_named, schemas, rows_named}
+use Rattle.snapshots.specs.States.{State, table_named, schemas, schemas_of, rows_named}
+use Rattle.snapshots.specs.declared.tables.Table.{Table}
 use Rattle.version_store.specs.Built.{AreBuilt, AreTables}
 use Rattle.version_store.specs.Histories.{Commit, History, marks, states_of, after, replay}
 use Rattle.version_store.specs.Histories.{IsHistory}
@@ -49,3 +50,9 @@ pub record FoundTable (state : State) (name : List ℕ) : Type 0 where
 
 abbrev pub FoundTables : Type 0
 FoundTables = (state : State) (name : List ℕ) → FoundTable state name
+
+-- whatever name has columns and rows, these can be asked
+abbrev pub HaveRows : List Table → Type 0
+HaveRows tables = (name : List ℕ) (columns : List Column) (rows : List (ℕ × List Cell))
+    → schema_of name (schemas_of tables) ≡ Some columns
+    → rows_named name tables ≡ Some rows → AreRows columns rows

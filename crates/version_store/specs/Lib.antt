@@ -1,9 +1,14 @@
-pub mod States
 pub mod Faults
 pub mod Changes
 pub mod Histories
 pub mod Built
 pub mod Answers
+pub mod Performing
+pub mod Drafted
 pub mod Stored
+pub mod Keeping
+pub mod Legal
+pub mod Counted
+pub mod Counts
 pub mod Laws
 pub mod Worked

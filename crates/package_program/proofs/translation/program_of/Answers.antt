@@ -13,17 +13,17 @@ returns-in_err-rows c =
     let p = err_from_is_err_and c.from_residual-in_err-rows.result c.from_residual-in_err-rows.ensures.1 in
     rw (p.1, p.2) (rows_fail c.args.query.now (entries_of c.args.candidates.now) c.in_err-rows.field-0.0 c.in_ok-cost.ensures.1 c.in_err-rows.ensures)
 
-pub new-requires : goal.new-requires
-new-requires c =
+pub new-requires-2 : goal.new-requires-2
+new-requires-2 c =
     let query = c.args.query.now in
     let rows = entries_of c.args.candidates.now in
     let upper : c.in_ok-upper.upper ≡ replicate (length rows) query.row_bound = c.in_ok-upper.ensures ∙ ap (λ (n : ℕ). replicate n query.row_bound) (sym (length-map _ _)) in
     let small : AreSumsSmall (asks query) query.row_bound rows = (c.in_ok-cost.ensures.1, c.in_ok-rows.ensures.2) in
     rw (c.in_ok-cost.ensures.0, c.in_ok-rows.ensures.0, c.in_ok-rows.ensures.1, upper) (program_legal query rows c.requires.few small)
 
-pub new-requires-2 : goal.new-requires-2
-new-requires-2 c =
+pub new-requires-3 : goal.new-requires-3
+new-requires-3 c =
     let query = c.args.query.now in
     let rows = entries_of c.args.candidates.now in
     let upper : c.in_ok-upper.upper ≡ replicate (length rows) query.row_bound = c.in_ok-upper.ensures ∙ ap (λ (n : ℕ). replicate n query.row_bound) (sym (length-map _ _)) in
-    rw (c.new.ensures, c.in_ok-ids.ensures, c.in_ok-cost.ensures.0, c.in_ok-rows.ensures.0, c.in_ok-rows.ensures.1, upper) (program_linear query rows c.requires.ascending)
+    rw (c.new-2.ensures, c.in_ok-ids.ensures, c.in_ok-cost.ensures.0, c.in_ok-rows.ensures.0, c.in_ok-rows.ensures.1, upper) (program_linear query rows c.requires.ascending)

@@ -20,7 +20,7 @@ pub adds_of-requires-clause-fits : goal.adds_of-requires-clause-fits
 adds_of-requires-clause-fits c =
     let inside = rw c.as_slice-conjunct-items.ensures at c.loop-place-test.true in
     let is = rw c.as_slice-conjunct-items.ensures at c.conjunct-item.is in
-    conjunct_fits c.args.query.now (entries_of c.args.candidates.now) c.loop-place.place c.conjunct-item.result c.as_slice-terms.result.now inside is c.as_slice-terms.ensures c.requires.each
+    conjunct_fits c.args.query.now (entries_of c.args.candidates.now) c.loop-place.place c.conjunct-item.result c.as_slice-terms.result.now inside is c.as_slice-terms.ensures c.requires.rows.each
 
 pub returns-in_err-sum : goal.returns-in_err-sum
 returns-in_err-sum c =

@@ -1,0 +1,6 @@
+pub mod Sums
+pub mod Values
+pub mod Steps
+pub mod Seats
+pub mod Whole
+pub mod Ranks

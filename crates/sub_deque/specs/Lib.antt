@@ -1,0 +1,5 @@
+pub mod Views
+pub mod Rule
+pub mod Handles
+pub mod Answers
+pub mod Stations
