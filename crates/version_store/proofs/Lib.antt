@@ -1,9 +1,0 @@
-pub mod Lists
-pub mod Marks
-pub mod Places
-pub mod Steps
-pub mod Stores
-pub mod RowLemmas
-pub mod Judged
-pub mod Kept
-pub mod FoundLemmas

@@ -3,7 +3,6 @@ pub mod Faults
 pub mod Changes
 pub mod Histories
 pub mod Built
+pub mod Legal
 pub mod Answers
-pub mod Stored
 pub mod Laws
-pub mod Worked

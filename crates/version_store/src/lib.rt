@@ -3,10 +3,7 @@
 
 mod changes;
 mod faults;
-pub mod laws;
 mod limits;
-mod refusals;
-mod rows;
 mod store;
 
 pub use changes::{Change, Commit};
@@ -15,7 +12,4 @@ pub use limits::{
     MAX_COMMIT_ROWS, MAX_ENTRIES, MAX_PARTITION_COLUMNS, MAX_PARTITION_SIZE, MAX_TABLES,
     MAX_VERSION,
 };
-pub use store::VersionStore;
-
-#[cfg(test)]
-mod tests;
+pub use store::{Committed, VaultFault, VersionStore};
