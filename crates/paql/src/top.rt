@@ -69,3 +69,5 @@ fn code_of(end: SessionEnd) -> u8
 mod session_tests;
 #[cfg(test)]
 mod tests;
+#[cfg(test)]
+mod version_tests;

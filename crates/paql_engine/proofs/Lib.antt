@@ -3,6 +3,7 @@ pub mod TextOnce
 pub mod Histories
 pub mod Transcripts
 pub mod Rows
+pub mod Asked
 pub mod Serving
 pub mod Framing
 pub mod Performing

@@ -37,6 +37,16 @@ begins = record {
   };
 }
 
+-- the frames of a framer are the first of the bytes
+begins_at : (bytes : List ℕ) (frames : List Frame) (before : Option (List ℕ)) (input : Input) → Stands IsLoad bytes frames before input
+    → (rest : List ℕ) × Begins IsLoad bytes frames rest
+begins_at bytes frames None input stands = (stands.rest, stands.begins)
+begins_at bytes frames (Some words) input stands = (stands.rest, stands.begins)
+
+-- without memory for it
+pub begun_without : EndsSo (account_of [] [] [] []) ends.Memory
+begun_without = (begins_at [] [] None (record { left = []; awaited = None }) (stands_at_first IsLoad), inl refl)
+
 -- ---- a machine that may frame
 
 -- with nothing owed
@@ -67,12 +77,6 @@ opens bytes written machine free quiet serving =
     }
 
 -- ---- ends
-
--- the frames of a framer are the first of the bytes
-begins_at : (bytes : List ℕ) (frames : List Frame) (before : Option (List ℕ)) (input : Input) → Stands IsLoad bytes frames before input
-    → (rest : List ℕ) × Begins IsLoad bytes frames rest
-begins_at bytes frames None input stands = (stands.rest, stands.begins)
-begins_at bytes frames (Some words) input stands = (stands.rest, stands.begins)
 
 pub begun : (account : Account) (talk : Conversation) → IsBetween account talk → IsBegun account
 begun account talk between = begins_at account.bytes account.frames between.before talk.input between.stands

@@ -1,6 +1,7 @@
 pub mod State
 pub mod Performed
 pub mod Refused
+pub mod Queries
 pub mod Steps
 pub mod Replied
 pub mod Showing

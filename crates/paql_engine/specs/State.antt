@@ -1,7 +1,6 @@
 -- What a session is over: the history of all commits, and its own state beside it.
-use Rattle.std.specs.Prelude.{ℕ, List, [], take, Option, None}
-use Rattle.version_store.specs.Histories.{History, replay}
-use Rattle.version_store.specs.States.{State}
+use Rattle.std.specs.Prelude.{ℕ, List, take, Option, None}
+use Rattle.version_store.specs.Histories.{History}
 use Rattle.version_store.specs.declared.changes.Change.{Change}
 use Rattle.query_answer.specs.declared.kept.Kept.{Kept}
 
@@ -21,9 +20,6 @@ pub record SessionData : Type 0 where
   pub history : History
   pub state : SessionState
 
--- the commits that a session has seen, and the tables after them
+-- the commits that a session has seen
 abbrev pub seen_of : History → SessionState → History
 seen_of history state = take state.seen history
-
-abbrev pub tables_seen : History → SessionState → State
-tables_seen history state = replay (seen_of history state)

@@ -74,9 +74,10 @@ abbrev pub replied : Result Answer AllocError → ReplyData
 replied (Ok answer) = reply_of answer
 replied (Err fault) = refusal_of memory
 
--- its bytes; only a reply that was made may lack memory for them
+-- its bytes; a reply that was made, or is made now, may lack memory for them
 abbrev pub Owes : Result Answer AllocError → Option (List ℕ) → Type 0
 Owes (Ok (answers.Made reply)) None = Unit {0}
+Owes (Ok (answers.Accepted accepted committed)) None = Unit {0}
 Owes (Ok answers.NotBuilt) None = ⊥
 Owes (Err fault) None = ⊥
 Owes answered (Some owed) = owed ≡ reply_text (replied answered)

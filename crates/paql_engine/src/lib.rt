@@ -1,6 +1,9 @@
 //! A session without input and output: bytes go in, and wishes come out.
 #![tactic(auto)]
 
+mod accepted;
+mod asking;
+mod changing;
 mod ending;
 mod laws;
 mod machine;
@@ -9,6 +12,7 @@ mod refused;
 mod session;
 mod text;
 
+pub use accepted::Accepted;
 pub use ending::{MAX_BYTES, MAX_READ, SessionEnd};
 pub use laws::{blank_is_tokenless, longer_history, most_bytes};
 pub use machine::{Machine, Wish};

@@ -7,10 +7,11 @@ ghost use Rattle.session_proto.specs.Refusals.{refusal_of};
 ghost use Rattle.session_proto.specs.Replies.{reply_text};
 ghost use Rattle.paql_engine.specs.Conversation.{IsServing, told, turns_left, framing, reading, ended, none, input_ended, read_failed, write_failed};
 ghost use Rattle.paql_engine.specs.Machine.{Continues, Feeds, Writes, HasText, room_of, without_owed, Wishes, IsParsed};
-ghost use Rattle.paql_engine.specs.Replied.{reply_of};
+ghost use Rattle.paql_engine.specs.Replied.{reply_of, shown_as};
 ghost use Rattle.paql_engine.specs.Stages.{stage_of};
 ghost use Rattle.paql_engine.specs.Turns.{IsFree, Performs, BeginsWith, Finishes, RefusesFault, Needs, Owes, IsOwedNow, IsSettled, IsFewer, IsLess, IsInputEnd, at_stage, waiting_for, stage_fed};
 
+use crate::accepted::{Accepted, accepted_reply};
 use crate::ending::{MAX_BYTES, MAX_READ, SessionEnd};
 use crate::owed::Owed;
 use crate::session::{Answer, Session};
@@ -20,6 +21,7 @@ use session_proto::refusals::{Refusal, TextFault, refusal_reply};
 use session_proto::{Body, Framed, Framer, Reply, reply_bytes};
 use std::alloc::{AllocError, Global};
 use std::marker::Model;
+use version_store::Committed;
 
 /// What a machine wishes next.
 #[derive(Clone, Copy, Debug, PartialEq, Eq)]
@@ -82,19 +84,20 @@ impl Model for Machine {
 }
 
 impl Machine {
-    /// A session at its beginning. It takes no memory.
-    pub fn new(alloc: Global) -> Machine
-        ensures serves { IsServing [] [] result }
-        ensures told { told result ≡ none }
+    /// A session at its beginning.
+    pub fn new(alloc: Global) -> Result<Machine, AllocError>
+        ensures serves { IfOk result (λ machine. IsServing [] [] machine) }
+        ensures told { IfOk result (λ machine. told machine ≡ none) }
     {
-        Machine {
+        let session = Session::new(alloc)?;
+        Ok(Machine {
             framer: Framer::new(alloc),
-            session: Session::new(alloc),
+            session,
             waiting: None,
             owed: Owed::nothing(alloc),
             taken: 0,
             stage: Stage::Framing,
-        }
+        })
     }
 
     /// What the machine wishes next. It frames the bytes that are held, and performs a statement whose body is whole.
@@ -363,8 +366,20 @@ fn owed_for(alloc: Global, answered: Result<Answer, AllocError>) -> Option<Owed>
 {
     match answered {
         Ok(Answer::Made(reply)) => bytes_of(alloc, &reply),
+        Ok(Answer::Accepted(accepted, committed)) => accepted_bytes(alloc, accepted, committed),
         Ok(Answer::NotBuilt) => Some(Owed::not_built()),
         Err(_) => Some(Owed::memory()),
+    }
+}
+
+// The bytes of the reply to an accepted commit, if there is memory for them.
+fn accepted_bytes(alloc: Global, accepted: Accepted, committed: Committed) -> Option<Owed>
+    ensures { MatchOption result (Unit {0}) (λ owed.
+        owed ≡ reply_text (shown_as accepted committed.rows committed.version)) }
+{
+    match accepted_reply(alloc, accepted, committed) {
+        Ok(reply) => bytes_of(alloc, &reply),
+        Err(_) => None,
     }
 }
 

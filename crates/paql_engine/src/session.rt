@@ -1,51 +1,57 @@
-//! A session: the commits that it accepted so far, with the tables after them, and what it keeps of its last answer.
-ghost use Rattle.std.specs.Prelude.{◌≡◌, ◌<◌, ◌++◌, [], ◌∷◌, IfOk, IsErr, IsTrue, OnErr, None, ℕ, List};
-ghost use Rattle.package_query.specs.Package.{AscendsFrom};
+//! A session: a store of versions, the changes of the transaction that is open, and what is kept of the last answer.
+ghost use Rattle.std.specs.Prelude.{◌≡◌, ◌≢◌, ◌+◌, [], ◌∷◌, ◌++◌, IfOk, OnOk, OnErr, Some, None, false, ℕ, List, length};
+ghost use Rattle.paql_ast.specs.declared.queries.Query.{Query};
 ghost use Rattle.paql_ast.specs.declared.statements.Statement.{Statement};
-ghost use Rattle.version_store.specs.Built.{AreTables};
-ghost use Rattle.version_store.specs.Histories.{replay};
 ghost use Rattle.paql_ast.specs.declared.statements.Statement.TheVariants as statements;
-ghost use Rattle.session_proto.specs.Input.{Content, content_of};
+ghost use Rattle.session_proto.specs.Answers as answers;
+ghost use Rattle.session_proto.specs.Causes.{session_cause};
+ghost use Rattle.session_proto.specs.Input.{content_of};
+ghost use Rattle.session_proto.specs.Refusals.{refusal_of};
+ghost use Rattle.version_store.specs.Laws.{HaveRows};
+ghost use Rattle.version_store.specs.Legal.{HasColumns};
 ghost use Rattle.version_store.specs.declared.changes.Change.{Change};
-ghost use Rattle.paql_engine.specs.Performed.{change_of, query_of, is_exact, is_performed};
-ghost use Rattle.paql_engine.specs.Showing.{AnswersCommit, RefusedSo, RefusesCommit, StepsTo, Grows, tables_of};
+ghost use Rattle.paql_engine.specs.Performed.{change_of, query_of, is_exact, is_turn};
+ghost use Rattle.paql_engine.specs.Showing.{RefusedSo, RefusesCommit, StepsTo, Grows, Looks};
 ghost use Rattle.paql_engine.specs.State.{opening};
-ghost use Rattle.paql_engine.specs.Steps.{Steps, IsBoundTo, faults_of, rows_asked};
+ghost use Rattle.paql_engine.specs.Steps.{Steps};
 ghost use Rattle.paql_engine.specs.Replied.{reply_of};
 
+use crate::accepted::{Accepted, accepted_as};
+use crate::asking::{Found, find};
+use crate::changing::change_of;
 use crate::refused;
-use bound_query::BoundQuery;
 use paql_ast::queries::{Method, Query};
 use paql_ast::statements::Statement;
-use paql_bind::{BindFault, bind};
-use query_answer::{Answered, Kept, answer};
-use schema_types::{Column, Lit, Text};
+use query_answer::Kept;
+use session_proto::refusals::{BindFault, SessionFault};
 use session_proto::{Body, Refusal, Reply, answers, refusal_reply};
-use sqlite_items::Items;
+use snapshots::Snapshot;
 use std::alloc::{AllocError, Global};
 use std::marker::Model;
-use table_schema::Row;
-use version_store::{CommitFault, CommitKind, VersionStore};
+use version_store::{Change, Commit, CommitFault, CommitKind, Committed, VaultFault, VersionStore};
 
 /// What answers a statement.
 #[derive(Debug, Drop)]
 pub enum Answer {
     /// A reply that was made.
     Made(Reply),
+    /// A commit was accepted, whose reply is still to be made.
+    Accepted(Accepted, Committed),
     /// The statement isn't performed yet. Its line is constant, so that it takes no memory.
     NotBuilt,
 }
 
-/// The commits that a session accepted, in order, with the tables after them, and what it keeps of the last query that
-/// it answered. Contracts see the history and the session's state.
+/// The commits that a session accepted, in order, with the changes of the transaction that is open, and what it keeps of
+/// the last query that it answered. Contracts see the history and the session's state.
 #[derive(Drop)]
 pub struct Session {
     store: VersionStore,
+    queue: Option<Commit>,
     kept: Option<Kept>,
 }
 
 impl Model for Session {
-    ghost use Rattle.std.specs.Prelude.{None, length};
+    ghost use Rattle.std.specs.Prelude.{length};
     ghost use Rattle.std.specs.Coded.{codes};
     ghost use Rattle.paql_ast.specs.contracts.conditions.Pred as pred;
     ghost use Rattle.paql_engine.specs.State.{SessionData};
@@ -56,19 +62,20 @@ impl Model for Session {
 
     ghost view = { λ s. record {
       history = s.store;
-      state = record { queue = None; kept = s.kept; seen = length s.store };
+      state = record { queue = s.queue; kept = s.kept; seen = length s.store };
     } };
 }
 
 impl Session {
-    /// No commit yet. It takes no memory.
-    pub fn new(alloc: Global) -> Session
-        ensures { result ≡ record { history = []; state = opening } }
+    /// No commit yet, and no transaction.
+    pub fn new(alloc: Global) -> Result<Session, AllocError>
+        ensures { IfOk result (λ session. session ≡ record { history = []; state = opening }) }
     {
-        Session {
-            store: VersionStore::new(alloc),
+        Ok(Session {
+            store: VersionStore::new(alloc)?,
+            queue: None,
             kept: None,
-        }
+        })
     }
 
     /// Performs a statement with its body and gives its answer. If memory runs out, nothing changes.
@@ -84,55 +91,114 @@ impl Session {
         ensures err { OnErr result (self.new ≡ self.old) }
     {
         match statement {
-            Statement::Create { table, columns } => self.create(alloc, table, columns),
-            Statement::Insert { table, rows } => self.insert(alloc, table, rows),
+            Statement::Begin => self.begin(alloc),
+            Statement::Commit => self.commit(alloc),
+            Statement::Rollback => self.roll_back(alloc),
             Statement::Query(query) => self.ask(alloc, &query),
-            _ => Ok(self.pass_over()),
+            other => self.change_or_pass(alloc, other),
+        }
+    }
+
+    // A change, or a statement that isn't performed.
+    fn change_or_pass(&mut self, alloc: Global, statement: Statement) -> Result<Answer, AllocError>
+        requires turn { is_turn statement ≡ false }
+        requires query { query_of statement ≡ None }
+        ensures ok { IfOk result (StepsTo self.old statement self.new) }
+        ensures grows { Grows self.old self.new }
+        ensures err { OnErr result (self.new ≡ self.old) }
+    {
+        match change_of(statement) {
+            Some(change) => self.change(alloc, change),
+            None => Ok(self.pass_over()),
         }
     }
 
     // A statement that isn't performed.
     fn pass_over(&self) -> Answer
-        ensures { (t : Statement) → change_of t ≡ None → query_of t ≡ None
+        ensures { (t : Statement) → change_of t ≡ None → query_of t ≡ None → is_turn t ≡ false
             → StepsTo self.now t self.now result }
     {
         let _commits = self.store.version();
         Answer::NotBuilt
     }
 
-    // CREATE TABLE.
-    fn create(
-        &mut self,
-        alloc: Global,
-        table: Text,
-        columns: Items<Column>,
-    ) -> Result<Answer, AllocError>
-        ensures ok { IfOk result (StepsTo self.old (statements.Create table columns) self.new) }
+    // A change. In a transaction it is queued, and else it is a commit.
+    fn change(&mut self, alloc: Global, change: Change) -> Result<Answer, AllocError>
+        requires { HasColumns change }
+        ensures ok { IfOk result (λ answer. (t : Statement) → change_of t ≡ Some change
+            → StepsTo self.old t self.new answer) }
         ensures grows { Grows self.old self.new }
         ensures err { OnErr result (self.new ≡ self.old) }
     {
-        if columns.is_empty() {
-            return Ok(self.pass_over());
+        match &mut self.queue {
+            Some(queue) => queued(alloc, queue, change),
+            None => self.commit_alone(alloc, change),
         }
-        let reply = answers::created(alloc, self.store.version() + 1)?;
-        let outcome = self.store.create(alloc, table, columns);
-        committed(alloc, outcome, reply)
     }
 
-    // INSERT.
-    fn insert(
-        &mut self,
-        alloc: Global,
-        table: Text,
-        rows: Items<Items<Lit>>,
-    ) -> Result<Answer, AllocError>
-        ensures ok { IfOk result (StepsTo self.old (statements.Insert table rows) self.new) }
+    // A change outside a transaction.
+    fn commit_alone(&mut self, alloc: Global, change: Change) -> Result<Answer, AllocError>
+        requires columns { HasColumns change }
+        requires alone { self.old.state.queue ≡ None }
+        ensures ok { IfOk result (λ answer. (t : Statement) → change_of t ≡ Some change
+            → StepsTo self.old t self.new answer) }
         ensures grows { Grows self.old self.new }
         ensures err { OnErr result (self.new ≡ self.old) }
     {
-        let reply = answers::inserted(alloc, rows.len() as u64, self.store.version() + 1)?;
-        let outcome = self.store.insert(alloc, table, rows);
-        committed(alloc, outcome, reply)
+        let accepted = accepted_as(&change);
+        let mut commit = Commit::new(alloc);
+        commit.push(change)?;
+        match self.store.commit(alloc, commit) {
+            Ok(committed) => Ok(Answer::Accepted(accepted, committed)),
+            Err((fault, _)) => refused_commit(alloc, fault),
+        }
+    }
+
+    // BEGIN.
+    fn begin(&mut self, alloc: Global) -> Result<Answer, AllocError>
+        ensures ok { IfOk result (StepsTo self.old statements.Begin self.new) }
+        ensures grows { Grows self.old self.new }
+        ensures err { OnErr result (self.new ≡ self.old) }
+    {
+        if self.queue.is_some() {
+            return unready(alloc, SessionFault::InTransaction);
+        }
+        let reply = answers::begun(alloc)?;
+        self.queue = Some(Commit::new(alloc));
+        Ok(Answer::Made(reply))
+    }
+
+    // COMMIT. If it is refused, the transaction stays open, and its changes stay as they are.
+    fn commit(&mut self, alloc: Global) -> Result<Answer, AllocError>
+        ensures ok { IfOk result (StepsTo self.old statements.Commit self.new) }
+        ensures grows { Grows self.old self.new }
+        ensures err { OnErr result (self.new ≡ self.old) }
+    {
+        let Some(queue) = self.queue.take() else {
+            return unready(alloc, SessionFault::NotInTransaction);
+        };
+        let accepted = Accepted::Transaction(queue.len() as u64);
+        match self.store.commit(alloc, queue) {
+            Ok(committed) => Ok(Answer::Accepted(accepted, committed)),
+            Err((fault, queue)) => {
+                self.queue = Some(queue);
+                refused_commit(alloc, fault)
+            }
+        }
+    }
+
+    // ROLLBACK.
+    fn roll_back(&mut self, alloc: Global) -> Result<Answer, AllocError>
+        ensures ok { IfOk result (StepsTo self.old statements.Rollback self.new) }
+        ensures grows { Grows self.old self.new }
+        ensures err { OnErr result (self.new ≡ self.old) }
+    {
+        if self.queue.is_none() {
+            return unready(alloc, SessionFault::NotInTransaction);
+        }
+        let reply = answers::rolled_back(alloc)?;
+        self.queue = None;
+        Ok(Answer::Made(reply))
     }
 
     // A query.
@@ -141,74 +207,69 @@ impl Session {
         ensures grows { Grows self.old self.new }
         ensures err { OnErr result (self.new ≡ self.old) }
     {
-        if !is_performed(query) {
+        if !is_exact(query.method) {
             return Ok(self.pass_over());
         }
-        match bind(alloc, self.store.schemas(), query) {
-            Ok(bound) => self.solve(alloc, query, &bound),
-            Err(BindFault::Refused(fault)) => refused(
-                alloc,
-                refused::binding(alloc, None, &fault)?,
-            ),
-            Err(BindFault::Memory(error)) => Err(error),
-        }
-    }
-
-    // A query that is bound.
-    fn solve(
-        &mut self,
-        alloc: Global,
-        query: &Query,
-        bound: &BoundQuery,
-    ) -> Result<Answer, AllocError>
-        requires performed { IsTrue (is_performed query.now) }
-        requires good { faults_of (tables_of self.old) query.now ≡ [] }
-        requires bound { IsBoundTo (tables_of self.old) query.now bound.now }
-        ensures ok { IfOk result (StepsTo self.old (statements.Query query.now) self.new) }
-        ensures grows { Grows self.old self.new }
-        ensures err { OnErr result (self.new ≡ self.old) }
-    {
-        let version = self.store.version();
-        let rows = rows_asked(&self.store, query);
-        match answer(alloc, bound, rows, version)? {
-            Answered::Reply(reply, kept) => {
+        let snapshot = match self.look(query.version) {
+            Ok(snapshot) => snapshot,
+            Err(VaultFault::Unkept { asked, low, high }) => {
+                let fault = BindFault::Unkept { asked, high, low };
+                return refused(alloc, Some(Refusal::Bind(None, fault)));
+            }
+            Err(VaultFault::Memory(error)) => return Err(error),
+        };
+        match find(alloc, query, &snapshot)? {
+            Found::Reply(reply, kept) => {
                 self.kept = Some(kept);
                 Ok(Answer::Made(reply))
             }
-            Answered::Refused(fault) => refused(alloc, Some(Refusal::Query(fault))),
+            Found::Refused(refusal) => refused(alloc, refusal),
+        }
+    }
+
+    // The version that is asked for, or the last.
+    fn look(&self, version: Option<u64>) -> Result<Snapshot, VaultFault>
+        ensures looks { Looks self.now.history version result }
+        ensures rows { IfOk result (λ snapshot. HaveRows snapshot.tables) }
+    {
+        match version {
+            Some(version) => self.store.snapshot_at(version),
+            None => match self.store.snapshot() {
+                Ok(snapshot) => Ok(snapshot),
+                Err(error) => Err(VaultFault::Memory(error)),
+            },
         }
     }
 }
 
-// The rows of the table that a query names.
-fn rows_asked<'a>(store: &'a VersionStore, query: &Query) -> &'a [(u64, Row)]
-    ensures value { result.now ≡ rows_asked (replay store.now) query.now }
-    ensures ids { AscendsFrom 0 result.now }
-    ensures tables { AreTables (replay store.now).tables }
+// A change goes to the end of the queue.
+fn queued(alloc: Global, queue: &mut Commit, change: Change) -> Result<Answer, AllocError>
+    requires { HasColumns change }
+    ensures ok { IfOk result (λ answer.
+        reply_of answer ≡ answers.queued (length queue.old + 1)) }
+    ensures pushed { OnOk result (queue.new ≡ queue.old ++ change ∷ []) }
+    ensures err { OnErr result (queue.new ≡ queue.old) }
 {
-    match store.rows(query.table.as_slice()) {
-        Some(rows) => rows,
-        None => &[],
-    }
+    let reply = answers::queued(alloc, queue.changes().len() as u64 + 1)?;
+    queue.push(change)?;
+    Ok(Answer::Made(reply))
 }
 
-// The answer to a commit, with the reply to an accepted one.
-fn committed(
-    alloc: Global,
-    outcome: Result<(), CommitFault>,
-    reply: Reply,
-) -> Result<Answer, AllocError>
-    ensures ok { IfOk result (AnswersCommit outcome reply) }
-    ensures err { OnErr result (IsErr outcome) }
+// The session isn't ready for a statement.
+fn unready(alloc: Global, fault: SessionFault) -> Result<Answer, AllocError>
+    ensures { IfOk result (λ answer. reply_of answer ≡ refusal_of (session_cause fault)) }
 {
-    match outcome {
-        Ok(()) => Ok(Answer::Made(reply)),
-        Err(fault) => refused_commit(alloc, &fault),
-    }
+    refused(alloc, Some(Refusal::Session(fault)))
 }
 
 // The answer to a commit that the store refuses.
-fn refused_commit(alloc: Global, fault: &CommitFault) -> Result<Answer, AllocError>
+fn refused_commit(alloc: Global, fault: CommitFault) -> Result<Answer, AllocError>
+    ensures { IfOk result (λ answer. RefusesCommit fault answer) }
+{
+    refused_for(alloc, &fault)
+}
+
+fn refused_for(alloc: Global, fault: &CommitFault) -> Result<Answer, AllocError>
     ensures { IfOk result (λ answer. RefusesCommit fault.now answer) }
 {
     if let CommitKind::Memory(_) = fault.kind {
@@ -227,13 +288,7 @@ fn refused(alloc: Global, refusal: Option<Refusal>) -> Result<Answer, AllocError
     }
 }
 
-// No version is asked for, and the method is exact.
-fn is_performed(query: &Query) -> bool
-    ensures { result ≡ is_performed query.now }
-{
-    query.version.is_none() && is_exact(query.method)
-}
-
+// The method of a query is exact.
 fn is_exact(method: Option<Method>) -> bool
     ensures { result ≡ is_exact method }
 {

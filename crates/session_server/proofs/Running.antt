@@ -1,5 +1,5 @@
 -- What the loop of a session keeps, and how it ends.
-use Rattle.std.proofs.Common.{◌≡◌, ℕ, ◌<◌, ◌≤◌, List, [], ◌++◌, length, Option, append-nil, refl, sym, ap, subst, ◌∙◌}
+use Rattle.std.proofs.Common.{◌≡◌, ℕ, ◌<◌, ◌≤◌, List, [], ◌++◌, length, Option, append-nil, refl, sym, ap, subst, ◌∙◌, arith}
 use Rattle.std.specs.Io.KnownBytes.{Consumes, Keeps}
 use Rattle.std.proofs.KnownBytes.{Appends-trans, Consumes-trans, Consumes-kept, Appends-nil, Consumes-nil}
 use Rattle.pq_base.specs.Outside.{Rose}
@@ -10,7 +10,8 @@ use Rattle.paql_engine.specs.Machine.{Continues, Feeds, Writes}
 use Rattle.paql_engine.specs.declared.ending.SessionEnd.{SessionEnd}
 use Rattle.paql_engine.specs.declared.ending.SessionEnd.TheVariants as ends
 use Rattle.paql_engine.specs.declared.ending.TheConstants.{MAX_BYTES}
-use Rattle.paql_engine.proofs.Serving.{account_of}
+use Rattle.paql_engine.specs.State.{opening}
+use Rattle.paql_engine.proofs.Serving.{account_of, begun_without}
 use Rattle.session_server.specs.Driving.{PutCause, PutsOwed, PullCause, ReadsMore, IsTold, IsRunning}
 use Rattle.session_server.specs.Ends.{EndsWith, HasCause, IsReadOut}
 
@@ -32,6 +33,20 @@ begins source sink machine serving is = record {
   wrote = Appends-nil sink.bytes;
   serving = serving;
   cause = subst (λ (o : Outside). IsTold source source sink sink o) (sym is) (refl, refl);
+}
+
+-- memory is out before anything is read or written
+pub begins_without : (source sink : Shown) → EndsWith source source sink sink ends.Memory
+begins_without source sink = record {
+  account = account_of [] [] [] [];
+  history = [];
+  state = opening;
+  read = Consumes-nil source.bytes;
+  most = omega arith;
+  transcript = refl;
+  wrote = Appends-nil sink.bytes;
+  ends = begun_without;
+  read_out = λ out. absurd out;
 }
 
 -- neither the source nor the sink was asked

@@ -21,7 +21,9 @@ pub fn serve_session<S: Source, K: Sink>(alloc: Global, source: &mut S, sink: &m
         (shown K.written K.faults sink.old) (shown K.written K.faults sink.new) result }
     ensures complete { IsWholeScript (S.left source.old) → IsDoneOrFault result }
 {
-    let mut machine = Machine::new(alloc);
+    let Ok(mut machine) = Machine::new(alloc) else {
+        return SessionEnd::Memory;
+    };
     loop {
         match machine.wish(alloc) {
             Wish::Parse => parse_next(alloc, &mut machine),

@@ -9,7 +9,9 @@ use Rattle.schema_types.specs.declared.Column.{Column}
 use Rattle.table_schema.specs.Named.{schema_of}
 use Rattle.table_schema.specs.Rows.{FitsSchema}
 use Rattle.table_schema.specs.declared.cells.Cell.{Cell}
-use Rattle.version_store.specs.States.{Entry, Table, State, table_named, rows_of}
+use Rattle.snapshots.specs.Entries.{Entry}
+use Rattle.snapshots.specs.States.{State, table_named, rows_of}
+use Rattle.snapshots.specs.declared.tables.Table.{Table}
 use Rattle.version_store.specs.Built.{IsTable, AreTables, AreBuilt}
 use Rattle.version_store.specs.Histories.{History, IsHistory}
 use Rattle.version_store.specs.Laws.{Leaves, AreRows, FoundTable}

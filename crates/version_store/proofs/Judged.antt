@@ -7,7 +7,8 @@ use Rattle.schema_types.specs.declared.Column.{Column}
 use Rattle.schema_types.specs.declared.Lit.{Lit}
 use Rattle.table_schema.specs.Columns.{schema_faults}
 use Rattle.paql_bind.specs.declared.faults.Refusal.TheVariants.{NoTable}
-use Rattle.version_store.specs.States.{Table, State, table_named, schemas}
+use Rattle.snapshots.specs.States.{State, table_named, schemas}
+use Rattle.snapshots.specs.declared.tables.Table.{Table}
 use Rattle.version_store.specs.Faults.{made_fault, exists_faults, tables_faults, insert_faults, on_table}
 use Rattle.version_store.specs.Changes.{rows_inserted}
 use Rattle.version_store.specs.Built.{IsGrowing}

@@ -7,7 +7,9 @@ use Rattle.schema_types.specs.declared.Column.{Column}
 use Rattle.schema_types.specs.declared.Lit.{Lit}
 use Rattle.table_schema.specs.declared.cells.Cell.{Cell}
 use Rattle.package_query.specs.Package.{AscendsFrom}
-use Rattle.version_store.specs.States.{Entry, Table, State, schemas, rows_of, rows_named, table_named, with_table}
+use Rattle.snapshots.specs.Entries.{Entry}
+use Rattle.snapshots.specs.States.{State, schemas, rows_of, rows_named, table_named, with_table}
+use Rattle.snapshots.specs.declared.tables.Table.{Table}
 use Rattle.table_schema.specs.Rows.{row_gives}
 use Rattle.version_store.specs.Changes.{cells_or_none, changed, inserted, new_entries, new_table}
 use Rattle.version_store.specs.Built.{AscendsTo, IsTable, AreTables, given_rows}

@@ -7,3 +7,8 @@ pub mod RowLemmas
 pub mod Judged
 pub mod Kept
 pub mod FoundLemmas
+pub mod Changing
+pub mod Fitting
+pub mod Legally
+pub mod Distinct
+pub mod Counting

@@ -4,10 +4,12 @@ use Rattle.std.specs.Prelude.{map, flat_map, ◌&&◌, ◌||◌}
 use Rattle.std.specs.List.{AllByRecursion}
 use Rattle.std.proofs.lemmas.List.Concat.{flat_map-append}
 use borrow.Author.Tests.{ne_eqb}
-use Rattle.version_store.specs.States.{Entry, Table, State}
+use Rattle.snapshots.specs.Entries.{Entry}
+use Rattle.snapshots.specs.States.{State}
+use Rattle.snapshots.specs.declared.tables.Table.{Table}
 use Rattle.version_store.specs.Built.{AscendsTo, AreApart}
 use Rattle.version_store.specs.Histories.{Mark, is_mark, is_marked, distinct, marks, marks_of_table, entries_kept, last_of, last_state}
-use Rattle.version_store.specs.States.{nothing}
+use Rattle.snapshots.specs.States.{nothing}
 use Rattle.version_store.proofs.Lists.{names_same, names_differ}
 
 -- ---- marks in lists
@@ -16,7 +18,7 @@ or_right : (a b : Bool) → b ≡ true → (a || b) ≡ true
 or_right true b e = refl
 or_right false b e = e
 
-or_wider : (a b c : Bool) → (b ≡ true → c ≡ true) → (a || b) ≡ true → (a || c) ≡ true
+pub or_wider : (a b c : Bool) → (b ≡ true → c ≡ true) → (a || b) ≡ true → (a || c) ≡ true
 or_wider true b c f e = refl
 or_wider false b c f e = f e
 
@@ -32,11 +34,11 @@ pub marked_wider : (mark : Mark) (xs ys zs : List Mark) → (is_marked mark ys �
 marked_wider mark [] ys zs f e = f e
 marked_wider mark (x ∷ xs) ys zs f e = or_wider (is_mark mark x) (is_marked mark (xs ++ ys)) (is_marked mark (xs ++ zs)) (marked_wider mark xs ys zs f) e
 
-neither : (mark : Mark) (xs ys : List Mark) → is_marked mark xs ≡ false → is_marked mark ys ≡ false → is_marked mark (xs ++ ys) ≡ false
+pub neither : (mark : Mark) (xs ys : List Mark) → is_marked mark xs ≡ false → is_marked mark ys ≡ false → is_marked mark (xs ++ ys) ≡ false
 neither mark [] ys e f = f
 neither mark (x ∷ xs) ys e f = or_none (is_mark mark x) (is_marked mark xs) (is_marked mark (xs ++ ys)) (λ given. neither mark xs ys given f) e
 
-is_mark_self : (mark : Mark) → is_mark mark mark ≡ true
+pub is_mark_self : (mark : Mark) → is_mark mark mark ≡ true
 is_mark_self mark = rw (names_same mark.table mark.table refl, eq-eqb mark.id mark.id refl, eq-eqb mark.born mark.born refl) refl
 
 -- ---- lists within lists
@@ -71,7 +73,7 @@ abbrev pub Fresh : List Mark → Type 0
 Fresh [] = Unit {0}
 Fresh (mark ∷ marks) = (is_marked mark marks ≡ false) × Fresh marks
 
-distinct_fresh : (xs : List Mark) → Fresh xs → distinct xs ≡ xs
+pub distinct_fresh : (xs : List Mark) → Fresh xs → distinct xs ≡ xs
 distinct_fresh [] fresh = refl
 distinct_fresh (x ∷ xs) fresh = rw fresh.0 (ap (λ (rest : List Mark). x ∷ rest) (distinct_fresh xs fresh.1))
 

@@ -4,7 +4,8 @@ use Rattle.std.specs.Prelude.{map}
 use Rattle.std.specs.List.{AllByRecursion, position_from}
 use Rattle.std.specs.Str.{bytes_eq}
 use Rattle.schema_types.specs.declared.Column.{Column}
-use Rattle.version_store.specs.States.{Table, table_named, with_table}
+use Rattle.snapshots.specs.States.{table_named, with_table}
+use Rattle.snapshots.specs.declared.tables.Table.{Table}
 use Rattle.version_store.proofs.Lists.{names_same, tests_apart}
 use Rattle.version_store.proofs.Marks.{name_of_table}
 

@@ -13,7 +13,9 @@ use Rattle.table_schema.proofs.RowLemmas.{row_fits}
 use Rattle.table_schema.proofs.ColumnLemmas.{is_schema}
 use Rattle.table_schema.specs.declared.cells.Cell.{Cell}
 use Rattle.table_schema.specs.declared.rows.RowFault.{RowFault}
-use Rattle.version_store.specs.States.{Entry, Table, State, table_named}
+use Rattle.snapshots.specs.Entries.{Entry}
+use Rattle.snapshots.specs.States.{State, table_named}
+use Rattle.snapshots.specs.declared.tables.Table.{Table}
 use Rattle.version_store.specs.Faults.{made_fault, exists_faults, tables_faults, create_faults, insert_faults, of_row}
 use Rattle.version_store.specs.Changes.{cells_or_none, new_entries, inserted, new_table}
 use Rattle.version_store.specs.Built.{AscendsTo, IsTable, AreApart, AreTables}
@@ -36,18 +38,18 @@ pub record Grows (old new : List Table) (count : ℕ) : Type 0 where
 
 -- ---- a new table
 
-apart_more : (names : List (List ℕ)) (name : List ℕ) → AreApart names → AllByRecursion (λ (other : List ℕ). other ≢ name) names → AreApart (names ++ name ∷ [])
+pub apart_more : (names : List (List ℕ)) (name : List ℕ) → AreApart names → AllByRecursion (λ (other : List ℕ). other ≢ name) names → AreApart (names ++ name ∷ [])
 apart_more [] name apart new = (tt, tt)
 apart_more (first ∷ names) name apart new = (all_append (λ (other : List ℕ). first ≢ other) names (name ∷ []) apart.0 (new.0, tt), apart_more names name apart.1 new.1)
 
-none_exists : (tables : List Table) (name : List ℕ) → exists_faults tables name ≡ [] → table_named name tables ≡ None
+pub none_exists : (tables : List Table) (name : List ℕ) → exists_faults tables name ≡ [] → table_named name tables ≡ None
 none_exists tables name e = by_case (table_named name tables) refl
   where
     by_case : (given : Option Table) → table_named name tables ≡ given → table_named name tables ≡ None
     by_case None is = is
     by_case (Some table) is = let given = rw is at e in absurd (cc)
 
-few_tables : (tables : List Table) → tables_faults tables ≡ [] → length tables < MAX_TABLES
+pub few_tables : (tables : List Table) → tables_faults tables ≡ [] → length tables < MAX_TABLES
 few_tables tables e = by_test (leb MAX_TABLES (length tables)) refl
   where
     by_test : (b : Bool) → leb MAX_TABLES (length tables) ≡ b → length tables < MAX_TABLES
@@ -95,17 +97,17 @@ new_length : (columns : List Column) (version id : ℕ) (rows : List (List Lit))
 new_length columns version id [] = refl
 new_length columns version id (lits ∷ rows) = ap suc (new_length columns version (suc id) rows)
 
-new_ascend : (columns : List Column) (version id : ℕ) (rows : List (List Lit)) → AscendsTo id (new_entries columns version id rows) (id + length rows)
+pub new_ascend : (columns : List Column) (version id : ℕ) (rows : List (List Lit)) → AscendsTo id (new_entries columns version id rows) (id + length rows)
 new_ascend columns version id [] = omega arith
 new_ascend columns version id (lits ∷ rows) =
     let same : suc id + length rows ≡ id + length (lits ∷ rows) = omega arith in
     (omega arith, subst (AscendsTo (suc id) (new_entries columns version (suc id) rows)) same (new_ascend columns version (suc id) rows))
 
-ascend_from : (low mid : ℕ) (entries : List Entry) (next : ℕ) → low ≤ mid → AscendsTo mid entries next → AscendsTo low entries next
+pub ascend_from : (low mid : ℕ) (entries : List Entry) (next : ℕ) → low ≤ mid → AscendsTo mid entries next → AscendsTo low entries next
 ascend_from low mid [] next h ids = omega (arith, h, ids)
 ascend_from low mid (entry ∷ entries) next h ids = (omega (arith, h, ids.0), ids.1)
 
-ascend_append : (low mid next : ℕ) (one other : List Entry) → AscendsTo low one mid → AscendsTo mid other next → AscendsTo low (one ++ other) next
+pub ascend_append : (low mid next : ℕ) (one other : List Entry) → AscendsTo low one mid → AscendsTo mid other next → AscendsTo low (one ++ other) next
 ascend_append low mid next [] other h ids = ascend_from low mid other next h ids
 ascend_append low mid next (entry ∷ one) other h ids = (h.0, ascend_append (suc entry.id) mid next one other h.1 ids)
 
@@ -116,7 +118,7 @@ given_fits : (columns : List Column) (lits : List Lit) (row : ℕ) (given : Resu
 given_fits columns lits row (Ok cells) is e = row_fits columns lits cells is
 given_fits columns lits row (Err fault) is e = absurd (cc)
 
-new_fit : (columns : List Column) (version id row : ℕ) (rows : List (List Lit)) → insert_faults columns row rows ≡ [] → AllByRecursion (EntryFits columns) (new_entries columns version id rows)
+pub new_fit : (columns : List Column) (version id row : ℕ) (rows : List (List Lit)) → insert_faults columns row rows ≡ [] → AllByRecursion (EntryFits columns) (new_entries columns version id rows)
 new_fit columns version id row [] e = tt
 new_fit columns version id row (lits ∷ rows) e =
     let parts = both_empty (of_row columns row (row_gives columns lits)) (insert_faults columns (suc row) rows) e in
@@ -126,7 +128,7 @@ new_fit columns version id row (lits ∷ rows) e =
 marks_between : (before after : List Table) (table : Table) → marks_in (before ++ table ∷ after) ≡ marks_in before ++ (marks_of_table table ++ marks_in after)
 marks_between before after table = flat_map-append marks_of_table before (table ∷ after)
 
-marks_inserted : (table : Table) (version : ℕ) (rows : List (List Lit)) → marks_of_table (inserted table version rows) ≡ marks_of_table table ++ entry_marks table.name (new_entries table.columns version table.next rows)
+pub marks_inserted : (table : Table) (version : ℕ) (rows : List (List Lit)) → marks_of_table (inserted table version rows) ≡ marks_of_table table ++ entry_marks table.name (new_entries table.columns version table.next rows)
 marks_inserted table version rows = map-append _ table.entries (new_entries table.columns version table.next rows)
 
 whole_inserted : (before after : List Table) (table : Table) (version : ℕ) (rows : List (List Lit)) → marks_in (before ++ inserted table version rows ∷ after) ≡ marks_in before ++ (marks_of_table table ++ (entry_marks table.name (new_entries table.columns version table.next rows) ++ marks_in after))

@@ -4,7 +4,8 @@ use Rattle.std.specs.Prelude.{map, flat_map}
 use Rattle.std.proofs.lemmas.List.Concat.{flat_map-append}
 use borrow.Author.Tests.{ltb-false}
 use Rattle.schema_types.specs.declared.Lit.{Lit}
-use Rattle.version_store.specs.States.{Table, State, nothing, table_named, with_table}
+use Rattle.snapshots.specs.States.{State, nothing, table_named, with_table}
+use Rattle.snapshots.specs.declared.tables.Table.{Table}
 use Rattle.version_store.specs.Faults.{change_faults, insert_faults}
 use Rattle.version_store.specs.Changes.{changed, inserted, rows_inserted}
 use Rattle.version_store.specs.Built.{IsGrowing, IsBuilt, AreBuilt, AreTables}
@@ -75,7 +76,7 @@ kept_count states change kept growing e =
     kept_is states new (follows.low ∙ kept.low) (within_new states new (rows_inserted change) kept follows) (fresh_tables new.tables follows.grows.ids follows.grows.names)
     ∙ follows.grows.total
 
-above_none : (most number : ℕ) (fault : ℕ → CommitKind) → above most number fault ≡ [] → number ≤ most
+pub above_none : (most number : ℕ) (fault : ℕ → CommitKind) → above most number fault ≡ [] → number ≤ most
 above_none most number fault e = by_test (ltb most number) refl
   where
     by_test : (b : Bool) → ltb most number ≡ b → number ≤ most

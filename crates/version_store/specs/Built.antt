@@ -7,7 +7,8 @@ use Rattle.schema_types.specs.declared.Lit.{Lit}
 use Rattle.table_schema.specs.Columns.{IsSchema}
 use Rattle.table_schema.specs.Rows.{FitsSchema, row_gives}
 use Rattle.table_schema.specs.declared.cells.Cell.{Cell}
-use Rattle.version_store.specs.States.{Entry, Table}
+use Rattle.snapshots.specs.Entries.{Entry}
+use Rattle.snapshots.specs.declared.tables.Table.{Table}
 use Rattle.version_store.specs.Changes.{cells_or_none}
 use Rattle.version_store.specs.Histories.{Commit, History}
 use Rattle.version_store.specs.declared.changes.Change.{Change}

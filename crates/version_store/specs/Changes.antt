@@ -15,7 +15,9 @@ use Rattle.paql_bind.specs.Names.{scope, number_or_zero}
 use Rattle.paql_bind.specs.Conditions.{bound_pred}
 use Rattle.bound_query.specs.Rows.{true_on}
 use Rattle.version_store.specs.Faults.{column_named}
-use Rattle.version_store.specs.States.{Entry, Table, State, table_named, with_table}
+use Rattle.snapshots.specs.Entries.{Entry}
+use Rattle.snapshots.specs.States.{State, table_named, with_table}
+use Rattle.snapshots.specs.declared.tables.Table.{Table}
 use Rattle.version_store.specs.declared.changes.Change.{Change}
 use Rattle.version_store.specs.declared.changes.Change.TheVariants as changes
 

@@ -21,7 +21,8 @@ use Rattle.paql_bind.specs.Names.{scope, number_faults, is_text_kind, kind_of}
 use Rattle.paql_bind.specs.Conditions.{filter_faults}
 use Rattle.paql_bind.specs.declared.faults.Refusal.{Refusal}
 use Rattle.paql_bind.specs.declared.faults.Refusal.TheVariants.{NoTable, NoColumn, WrongKind}
-use Rattle.version_store.specs.States.{Table, State, table_named}
+use Rattle.snapshots.specs.States.{State, table_named}
+use Rattle.snapshots.specs.declared.tables.Table.{Table}
 use Rattle.version_store.specs.declared.changes.Change.{Change}
 use Rattle.version_store.specs.declared.changes.Change.TheVariants as changes
 use Rattle.version_store.specs.declared.faults.CommitKind.{CommitKind}

@@ -3,7 +3,9 @@
 use Rattle.std.specs.Prelude.{◌≡◌, ℕ, suc, ◌+◌, ◌-◌, ◌^◌, nat_lt, ◌==◌, ◌&&◌, ◌||◌, Bool, false}
 use Rattle.std.specs.Prelude.{min, if◌then◌else◌, List, [], ◌∷◌, ◌++◌, map, flat_map, drop, length}
 use Rattle.std.specs.Str.{bytes_eq}
-use Rattle.version_store.specs.States.{Entry, Table, State, nothing}
+use Rattle.snapshots.specs.Entries.{Entry}
+use Rattle.snapshots.specs.States.{State, nothing}
+use Rattle.snapshots.specs.declared.tables.Table.{Table}
 use Rattle.version_store.specs.Faults.{change_faults}
 use Rattle.version_store.specs.Changes.{changed, rows_changed, rows_inserted}
 use Rattle.version_store.specs.declared.changes.Change.{Change}

@@ -9,7 +9,8 @@ use Rattle.table_schema.specs.Named.{schema_of}
 use Rattle.table_schema.specs.Rows.{FitsSchema}
 use Rattle.table_schema.specs.declared.cells.Cell.{Cell}
 use Rattle.package_query.specs.Package.{AscendsFrom}
-use Rattle.version_store.specs.States.{Table, State, table_named, schemas, rows_named}
+use Rattle.snapshots.specs.States.{State, table_named, schemas, rows_named}
+use Rattle.snapshots.specs.declared.tables.Table.{Table}
 use Rattle.version_store.specs.Built.{AreBuilt, AreTables}
 use Rattle.version_store.specs.Histories.{Commit, History, marks, states_of, after, replay}
 use Rattle.version_store.specs.Histories.{IsHistory}

@@ -1,9 +1,10 @@
-pub mod States
 pub mod Faults
 pub mod Changes
 pub mod Histories
 pub mod Built
 pub mod Answers
 pub mod Stored
+pub mod Legal
+pub mod Counted
 pub mod Laws
 pub mod Worked

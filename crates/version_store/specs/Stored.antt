@@ -6,7 +6,8 @@ use Rattle.std.specs.Prelude.{Option}
 use Rattle.std.specs.Str.{bytes_eq}
 use Rattle.schema_types.specs.declared.Column.{Column}
 use Rattle.table_schema.specs.declared.cells.Cell.{Cell}
-use Rattle.version_store.specs.States.{Table, State, schemas, rows_of}
+use Rattle.snapshots.specs.States.{State, schemas, rows_of}
+use Rattle.snapshots.specs.declared.tables.Table.{Table}
 use Rattle.version_store.specs.Faults.{exists_faults, tables_faults}
 use Rattle.version_store.specs.Histories.{History, replay, marks, above, new_version, IsHistory}
 use Rattle.version_store.specs.Built.{AreBuilt}

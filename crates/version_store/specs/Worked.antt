@@ -5,7 +5,7 @@ use Rattle.schema_types.specs.declared.Kind.TheVariants as kinds
 use Rattle.schema_types.specs.declared.Lit.TheVariants as lits
 use Rattle.table_schema.specs.declared.cells.Cell.{Cell}
 use Rattle.table_schema.specs.declared.cells.Cell.TheVariants as cells
-use Rattle.version_store.specs.States.{nothing, rows_of}
+use Rattle.snapshots.specs.States.{nothing, rows_of}
 use Rattle.version_store.specs.Histories.{Commit, History, states_of, replay, IsHistory}
 use Rattle.version_store.specs.Histories.{commit_faults, entries_kept, row_count, numbered}
 use Rattle.version_store.specs.declared.changes.Change.TheVariants as changes

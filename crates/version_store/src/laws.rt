@@ -1,5 +1,7 @@
 //! Laws of histories, for those who read the definitions.
 ghost use Rattle.version_store.specs.Laws.{LongerHistories, BuiltHistories, FoundTables};
+ghost use Rattle.version_store.specs.Legal.{LegalChanges, LegalHistories};
+ghost use Rattle.version_store.specs.Counted.{CountedEntries};
 ghost use Rattle.version_store.specs.Worked.{AreWorked};
 
 /// Small histories are what they were worked out to be by hand.
@@ -20,4 +22,20 @@ pub fn built_histories()
 /// The columns and the rows that a name has are those of one table, and fit one another.
 pub fn found_tables()
     ensures { FoundTables }
+{}
+
+/// Any change that isn't refused leaves tables as they have to be, within a commit too.
+pub fn legal_changes()
+    ensures { LegalChanges }
+{}
+
+/// What any history leaves are tables as they have to be.
+pub fn legal_histories()
+    ensures { LegalHistories }
+{}
+
+/// The entries that are kept are those of the least version that is kept, and those that each
+/// later commit wrote.
+pub fn counted_entries()
+    ensures { CountedEntries }
 {}

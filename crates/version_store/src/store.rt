@@ -3,7 +3,7 @@ ghost use Rattle.std.specs.Prelude.{◌≡◌, ◌<◌, ◌≤◌, [], ◌∷◌
 ghost use Rattle.std.specs.Option.{option_copied};
 ghost use Rattle.std.specs.Vec.{vec_len, vec_capacity};
 ghost use Rattle.package_query.specs.Package.{AscendsFrom};
-ghost use Rattle.version_store.specs.States.{schemas, rows_named};
+ghost use Rattle.snapshots.specs.States.{schemas, rows_named};
 ghost use Rattle.version_store.specs.Histories.{states_of, replay, commit_faults, marks, numbered, IsHistory};
 ghost use Rattle.version_store.specs.Built.{AreBuilt, AreTables};
 ghost use Rattle.version_store.specs.declared.limits.TheConstants.{MAX_VERSION};

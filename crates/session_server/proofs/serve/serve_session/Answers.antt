@@ -1,5 +1,6 @@
+use Rattle.std.proofs.Common.{inr, refl}
 use Rattle.session_server.proofs.Complete.{is_whole}
-use Rattle.session_server.proofs.Running.{goes_on, puts, pulls, has_cause, ends_with}
+use Rattle.session_server.proofs.Running.{begins_without, goes_on, puts, pulls, has_cause, ends_with}
 use Rattle.session_server.proofs.serve.serve_session.Goals as goal
 
 pub loop-machine-preserved-in-Write : goal.loop-machine-preserved-in-Write
@@ -28,3 +29,12 @@ pub returns-in-End-clause-complete : goal.returns-in-End-clause-complete
 returns-in-End-clause-complete g c =
     let wished = rw c.in-End.is at c.wish.ensures.wish in
     is_whole _ _ _ _ c.in-End.end (ends_with _ _ _ _ c.wish.new.self c.in-End.end wished (goes_on _ _ _ _ c.loop-machine.machine c.wish.new.self c.wish.ensures.continues c.wish.ensures.told c.loop-machine.invariant))
+
+pub returns-in_default-clause-ends : goal.returns-in_default-clause-ends
+returns-in_default-clause-ends g c = begins_without _ _
+
+pub returns-in_default-clause-cause : goal.returns-in_default-clause-cause
+returns-in_default-clause-cause g c = (refl, refl)
+
+pub returns-in_default-clause-complete : goal.returns-in_default-clause-complete
+returns-in_default-clause-complete g c = λ whole. inr (inr (inr refl))

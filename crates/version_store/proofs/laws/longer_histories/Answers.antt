@@ -1,5 +1,5 @@
 use Rattle.std.specs.Prelude.{[], ◌∷◌}
-use Rattle.version_store.specs.States.{nothing}
+use Rattle.snapshots.specs.States.{nothing}
 use Rattle.version_store.proofs.Stores.{states_more, replay_more}
 use Rattle.version_store.proofs.laws.longer_histories.Goals as goal
 

@@ -1,31 +1,12 @@
 -- What a version of a store shows.
-use Rattle.std.specs.Prelude.{ℕ, if◌then◌else◌, List, [], ◌∷◌, map, Option, None, Some}
-use Rattle.std.specs.Option.{option_map}
+use Rattle.std.specs.Prelude.{ℕ, ◌==◌, if◌then◌else◌, List, [], ◌∷◌, map, Option, None, Some}
+use Rattle.std.specs.Option.{option_map, option_and_then}
 use Rattle.std.specs.Str.{bytes_eq}
-use Rattle.pq_base.specs.declared.scaled.Scaled.{Scaled}
 use Rattle.schema_types.specs.declared.Column.{Column}
 use Rattle.table_schema.specs.declared.cells.Cell.{Cell}
-
--- a row with its id, and the version of the commit that last wrote it
-pub record Entry : Type 0 where
-  pub id : ℕ
-  pub row : List Cell
-  pub born : ℕ
-
--- how a table is cut into groups: by columns, which are places, with at most so many rows in a
--- group, and how far they may be from its middle
-pub record Partition : Type 0 where
-  pub columns : List ℕ
-  pub size : ℕ
-  pub radius : Scaled
-
--- a table: its rows, and the id of the next row
-pub record Table : Type 0 where
-  pub name : List ℕ
-  pub columns : List Column
-  pub next : ℕ
-  pub entries : List Entry
-  pub partition : Option Partition
+use Rattle.snapshots.specs.Entries.{entry_rows}
+use Rattle.snapshots.specs.declared.tables.Partition.{Partition}
+use Rattle.snapshots.specs.declared.tables.Table.{Table}
 
 -- the least version that is kept, and the tables in the order in which they were made
 pub record State : Type 0 where
@@ -49,11 +30,27 @@ with_table new (table ∷ tables) =
 
 -- the tables with their columns, and a table's rows after their ids, as queries are bound and
 -- asked
+abbrev pub schemas_of : List Table → List (List ℕ × List Column)
+schemas_of tables = map (λ (table : Table). (table.name, table.columns)) tables
+
 abbrev pub schemas : State → List (List ℕ × List Column)
-schemas state = map (λ (table : Table). (table.name, table.columns)) state.tables
+schemas state = schemas_of state.tables
 
 abbrev pub rows_of : Table → List (ℕ × List Cell)
-rows_of table = map (λ (entry : Entry). (entry.id, entry.row)) table.entries
+rows_of table = entry_rows table.entries
 
 abbrev pub rows_named : List ℕ → List Table → Option (List (ℕ × List Cell))
 rows_named name tables = option_map rows_of (table_named name tables)
+
+-- the row of an id
+abbrev pub row_with : ℕ → List (ℕ × List Cell) → Option (List Cell)
+row_with id [] = None
+row_with id (row ∷ rows) = if row.0 == id then Some row.1 else row_with id rows
+
+abbrev pub row_named : List ℕ → ℕ → List Table → Option (List Cell)
+row_named name id tables = option_and_then (row_with id) (rows_named name tables)
+
+-- how the table of a name is cut into groups
+abbrev pub partition_named : List ℕ → List Table → Option Partition
+partition_named name tables =
+    option_and_then (λ (table : Table). table.partition) (table_named name tables)
