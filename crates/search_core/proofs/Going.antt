@@ -21,8 +21,8 @@ use Rattle.search_core.specs.Nodes.{IsBetter}
 use Rattle.search_core.specs.Moves.{IsLowOf}
 use Rattle.search_core.specs.Core.{CoreState, begun, IsBusy, IsClosable, HasMore, IsReady, Outcome, in_hand, IsTaken, IsLooked, IsBestOf, IsOffered, IsRecorded, Runs}
 use Rattle.search_core.specs.Kept.{IsKept}
-use Rattle.search_core.specs.Solo.{Reaches, IsAlone, IsBegun, IsAdvanced}
-use Rattle.search_core.specs.declared.proposal.Proposal.{Proposal}
+use Rattle.search_core.specs.Solo.{Reaches, IsAlone, IsBegun, IsAllOffered, IsInformed, IsAdvanced}
+use Rattle.simplex_proposer.specs.declared.proposal.Proposal.{Proposal}
 use Rattle.search_core.specs.declared.event.Hand.{Hand}
 use Rattle.search_core.specs.declared.event.Seen.TheVariants.{NotLooked, Looked}
 use Rattle.search_core.specs.declared.event.Event.{Event}
@@ -156,29 +156,78 @@ closes_better p one two three four proposal point offers looks handles legal kep
       more = one_more_record p three four proposal recorded ∙ ap (λ (rs : List Record). length rs + 1) (looked.records ∙ offered.records);
     }
 
--- a node begun is handled
-pub handles_node : (p : ProblemData) (before middle after : CoreState) (proposal : Proposal) → IsBegun before middle → Outcome (IsReady p middle 0 proposal) (IsRecorded p middle 0 proposal after) (after ≡ middle) Done → IsAdvanced p before after
-handles_node p before middle after proposal begins steps =
+-- one more point is offered
+pub offers_more : (p : ProblemData) (before middle after : CoreState) (point : List ℕ) (outcome : Stepped) → IsAllOffered p before middle → Outcome (IsFeasible p point) (IsOffered p middle point after) (after ≡ middle) outcome → IsAllOffered p before after
+offers_more p before middle after point Done all steps = record {
+  reaches = reaches_then p before middle after all.reaches (Offer 0 point ∷ [], (Done, after, steps, refl));
+  hands = steps.1.hands ∙ all.hands;
+  budget = steps.1.budget ∙ all.budget;
+  records = steps.1.records ∙ all.records;
+}
+offers_more p before middle after point NotEnabled all steps = subst (IsAllOffered p before) (sym steps.1) all
+
+-- and the best value is looked at for the same node
+pub informs : (p : ProblemData) (before middle after : CoreState) (outcome : Stepped) → IsAlone before → IsAllOffered p before middle → Outcome (IsBusy middle.hands 0) (IsLooked middle 0 after) (after ≡ middle) outcome → IsInformed p before after
+informs p before middle after outcome alone all looks =
+    let hand = alone.hand in
+    let only : IsPermutation middle.hands (hand ∷ []) = rw all.hands alone.only in
+    let found = first_of middle.hands [] hand only in
+    let looked : IsLooked middle 0 after = done_if _ _ _ outcome looks (hand, (found, alone.worker)) in
+    let same : hand ≡ looked.hand = only_hand middle.hands hand looked.hand only looked.held.0 in
+    let new = in_hand 0 looked.hand.path (Looked (value_in middle.best)) in
+    let none : looked.hands.others ≡ [] = none_of looked.hands.others (omega (arith, length_permutation middle.hands (hand ∷ []) only, length_permutation middle.hands (looked.hand ∷ looked.hands.others) looked.hands.taken)) in
+    let last : IsPermutation after.hands (new ∷ []) = subst (λ (hs : List Hand). IsPermutation after.hands (new ∷ hs)) none looked.hands.put in
+    record {
+      reaches = reaches_then p before middle after all.reaches (Look 0 ∷ [], (outcome, after, looks, refl));
+      alone = record {
+        hand = new;
+        only = last;
+        worker = refl;
+        looked = ap (λ (best : Option Found). Looked (value_in best)) (sym looked.best);
+      };
+      same = λ box is other held.
+          subst (λ (h : Hand). box ≡ box_at p h.path) (only_hand after.hands new other last held.0)
+          (subst (λ (h : Hand). box ≡ box_at p h.path) same (is hand (first_of before.hands [] hand alone.only, alone.worker)));
+      budget = looked.budget ∙ all.budget;
+      records = looked.records ∙ all.records;
+    }
+
+-- so far a node was begun, or points were offered for it
+pub record IsAtNode (p : ProblemData) (before after : CoreState) : Type 0 where
+  pub reaches : Reaches p before after
+  pub alone : IsAlone after
+  pub budget : after.budget ≡ before.budget
+  pub records : after.records ≡ before.records
+
+pub at_begun : (p : ProblemData) (before after : CoreState) → IsBegun before after → IsAtNode p before after
+at_begun p before after begins = record { reaches = begins.reaches p; alone = begins.alone; budget = begins.budget; records = begins.records }
+
+pub at_informed : (p : ProblemData) (before after : CoreState) → IsInformed p before after → IsAtNode p before after
+at_informed p before after informed = record { reaches = informed.reaches; alone = informed.alone; budget = informed.budget; records = informed.records }
+
+-- it is handled
+pub handles_node : (p : ProblemData) (before middle after : CoreState) (proposal : Proposal) → IsAtNode p before middle → Outcome (IsReady p middle 0 proposal) (IsRecorded p middle 0 proposal after) (after ≡ middle) Done → IsAdvanced p before after
+handles_node p before middle after proposal node steps =
     let recorded : IsRecorded p middle 0 proposal after = steps.1 in
     record {
-      reaches = reaches_then p before middle after (begins.reaches p) (Handle 0 proposal ∷ [], (Done, after, steps, refl));
-      idle = none_of after.hands (omega (arith, length_permutation middle.hands (begins.alone.hand ∷ []) begins.alone.only, length_permutation middle.hands (recorded.hand ∷ after.hands) recorded.hands));
-      budget = recorded.budget ∙ begins.budget;
-      more = one_more_record p middle after proposal recorded ∙ ap (λ (rs : List Record). length rs + 1) begins.records;
+      reaches = reaches_then p before middle after node.reaches (Handle 0 proposal ∷ [], (Done, after, steps, refl));
+      idle = none_of after.hands (omega (arith, length_permutation middle.hands (node.alone.hand ∷ []) node.alone.only, length_permutation middle.hands (recorded.hand ∷ after.hands) recorded.hands));
+      budget = recorded.budget ∙ node.budget;
+      more = one_more_record p middle after proposal recorded ∙ ap (λ (rs : List Record). length rs + 1) node.records;
     }
 
 -- or it is stuck, and goes on from there
-pub goes_on : (p : ProblemData) (before middle after : CoreState) → IsBegun before middle → IsAdvanced p middle after → IsAdvanced p before after
-goes_on p before middle after begins advances = record {
-  reaches = reaches_then p before middle after (begins.reaches p) advances.reaches;
+pub goes_on : (p : ProblemData) (before middle after : CoreState) → IsAtNode p before middle → IsAdvanced p middle after → IsAdvanced p before after
+goes_on p before middle after node advances = record {
+  reaches = reaches_then p before middle after node.reaches advances.reaches;
   idle = advances.idle;
-  budget = advances.budget ∙ begins.budget;
-  more = advances.more ∙ ap (λ (rs : List Record). length rs + 1) begins.records;
+  budget = advances.budget ∙ node.budget;
+  more = advances.more ∙ ap (λ (rs : List Record). length rs + 1) node.records;
 }
 
 -- what holds of a search is kept by these calls
-pub keeps_begun : (p : ProblemData) (before after : CoreState) → IsKept p before → IsBegun before after → IsKept p after
-keeps_begun p before after kept begins = keeps_run p before after (begins.reaches p).0 kept (begins.reaches p).1
+pub keeps_node : (p : ProblemData) (before after : CoreState) → IsKept p before → IsAtNode p before after → IsKept p after
+keeps_node p before after kept node = keeps_run p before after node.reaches.0 kept node.reaches.1
 
 pub keeps_offer_look : (p : ProblemData) (before middle after : CoreState) (point : List ℕ) (offers looks : Stepped) → IsKept p before → Outcome (IsFeasible p point) (IsOffered p before point middle) (middle ≡ before) offers → Outcome (IsBusy middle.hands 0) (IsLooked middle 0 after) (after ≡ middle) looks → IsKept p after
 keeps_offer_look p before middle after point offers looks kept offer look =

@@ -15,7 +15,7 @@ use Rattle.cert_tree.specs.Partial.{PlainlyOpen}
 use Rattle.search_core.specs.Search.{Found, value_in}
 use Rattle.search_core.specs.Core.{CoreState, Holds, IsRecorded, IsBestOf, Performs, IsEnabled, Steps, Runs}
 use Rattle.search_core.specs.Runs.{BestIsOffered, WasOpen, SplitsWereOpen}
-use Rattle.search_core.specs.declared.proposal.Proposal.{Proposal}
+use Rattle.simplex_proposer.specs.declared.proposal.Proposal.{Proposal}
 use Rattle.search_core.specs.declared.event.Hand.{Hand}
 use Rattle.search_core.specs.declared.event.Seen.TheVariants.{Looked}
 use Rattle.search_core.specs.declared.event.Event.{Event}

@@ -23,7 +23,7 @@ use Rattle.lin_bound.specs.declared.mult.Mult.{Mult}
 use Rattle.search_core.specs.Nodes.{IsAbove, IsClosed}
 use Rattle.search_core.specs.Core.{CoreState, begun, IsBusy, in_hand, IsEnabled, IsTaken, IsLooked, IsBestOf, IsOffered, IsClosedBy, IsSplitBy, IsRecorded, IsDropped, Performs, Steps, Runs}
 use Rattle.search_core.specs.Kept.{path_held, one_of, SeenBelow, IsKept}
-use Rattle.search_core.specs.declared.proposal.Proposal.{Proposal}
+use Rattle.simplex_proposer.specs.declared.proposal.Proposal.{Proposal}
 use Rattle.search_core.specs.declared.event.Hand.{Hand}
 use Rattle.search_core.specs.declared.event.Seen.{Seen}
 use Rattle.search_core.specs.declared.event.Seen.TheVariants.{NotLooked, Looked}

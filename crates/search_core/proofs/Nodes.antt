@@ -13,7 +13,7 @@ use Rattle.lin_bound.proofs.Duality.{closed_holds_none}
 use Rattle.cert_tree.specs.Partial.{PlainlyOpen}
 use Rattle.search_core.specs.Boxes.{HasRoom, HasNoRoom, IsOpenBelow}
 use Rattle.search_core.specs.Nodes.{IsSplitAt, IsAbove, IsBetter}
-use Rattle.search_core.specs.declared.proposal.Proposal.{Proposal}
+use Rattle.simplex_proposer.specs.declared.proposal.Proposal.{Proposal}
 use Rattle.search_core.proofs.Steps.{one_point, open_feasible}
 
 -- where a box is split there is room

@@ -17,7 +17,7 @@ use Rattle.cert_tree.specs.Records.{children_of}
 use Rattle.cert_tree.specs.Partial.{PlainlyOpen}
 use Rattle.search_core.specs.Nodes.{IsAbove, IsClosed}
 use Rattle.search_core.specs.Search.{Found, value_in}
-use Rattle.search_core.specs.declared.proposal.Proposal.{Proposal}
+use Rattle.simplex_proposer.specs.declared.proposal.Proposal.{Proposal}
 use Rattle.search_core.specs.declared.event.Seen.{Seen}
 use Rattle.search_core.specs.declared.event.Seen.TheVariants.{NotLooked, Looked}
 use Rattle.search_core.specs.declared.event.Hand.{Hand}

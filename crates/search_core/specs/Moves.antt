@@ -8,6 +8,8 @@ use Rattle.lin_bound.specs.declared.mult.Mult.{Mult}
 use Rattle.cert_tree.specs.declared.records.Act.{Act}
 use Rattle.cert_tree.specs.declared.records.Act.TheVariants.{Closed, Split}
 use Rattle.lin_bound.specs.Box.{box_at, lower, upper}
+use Rattle.lin_bound.specs.Bound.{Closes}
+use Rattle.simplex_proposer.specs.declared.proposal.Proposal.{Proposal}
 use Rattle.search_core.specs.declared.event.Hand.{Hand}
 use Rattle.search_core.specs.declared.event.Seen.TheVariants.{Looked}
 use Rattle.search_core.specs.Core.{CoreState, Holds, IsTaken}
@@ -27,6 +29,19 @@ IsLowOf p state worker point = (hand : Hand) (seen : Option ℤ)
 abbrev pub IsBoxOf : ProblemData → CoreState → ℕ → Region → Type 0
 IsBoxOf p state worker box =
     (hand : Hand) → Holds state.hands worker hand → box ≡ box_at p hand.path
+
+-- the multipliers close the box of the worker's node for the value that it looked at
+pub record ClosesAtOnce (p : ProblemData) (state : CoreState) (worker : ℕ)
+    (mult : Mult) : Type 0 where
+  pub hand : Hand
+  pub seen : Option ℤ
+  pub held : Holds state.hands worker hand
+  pub looked : hand.seen ≡ Looked seen
+  pub closes : Closes p (box_at p hand.path) mult seen
+
+-- what is proposed then: the multipliers, and no place
+abbrev pub without_place : Mult → Proposal
+without_place mult = record { mult = mult; var = 0; at = 0 }
 
 -- the node in hand at a place goes to the records with what was done
 pub record Moves (before : CoreState) (place : ℕ) (hand : Hand) (act : Act)

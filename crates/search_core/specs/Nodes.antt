@@ -10,7 +10,7 @@ use Rattle.lin_bound.specs.declared.region.Region.{Region}
 use Rattle.lin_bound.specs.declared.mult.Mult.{Mult}
 use Rattle.cert_tree.specs.Partial.{PlainlyOpen}
 use Rattle.search_core.specs.Boxes.{IsFirstRoom, HasNoRoom, IsPlainlyClosed}
-use Rattle.search_core.specs.declared.proposal.Proposal.{Proposal}
+use Rattle.simplex_proposer.specs.declared.proposal.Proposal.{Proposal}
 use Rattle.search_core.specs.declared.node.Work.{Work}
 use Rattle.search_core.specs.declared.node.Handled.{Handled}
 use Rattle.search_core.specs.declared.node.Handled.TheVariants.{Closed, Split, Better}

@@ -14,7 +14,7 @@ use Rattle.search_core.specs.Core.{CoreState, Holds, IsEnabled, Performs, Runs}
 use Rattle.search_core.specs.Kept.{IsKept}
 use Rattle.search_core.specs.declared.event.Seen.TheVariants.{Looked}
 use Rattle.search_core.specs.declared.event.Hand.{Hand}
-use Rattle.search_core.specs.declared.proposal.Proposal.{Proposal}
+use Rattle.simplex_proposer.specs.declared.proposal.Proposal.{Proposal}
 use Rattle.search_core.specs.declared.event.Event.{Event}
 use Rattle.search_core.specs.declared.event.Event.TheVariants.{Handle, Offer}
 

@@ -1,7 +1,7 @@
 //! The events of a search, of any number of workers, and the nodes that workers have in hand.
 use crate::open_path::OpenPath;
-use crate::proposal::Proposal;
 use lin_bound::{Path, Point};
+use simplex_proposer::Proposal;
 
 /// The best value that a worker looked at for its node.
 #[derive(Clone, Copy, Debug, PartialEq, Eq)]

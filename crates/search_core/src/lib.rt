@@ -1,4 +1,4 @@
-//! The exact search: branch and bound over boxes, with the plain multipliers alone.
+//! The exact search: branch and bound over boxes, by multipliers and points that proposers offer and that are tested.
 #![tactic(auto)]
 
 mod boxes;
@@ -8,7 +8,6 @@ mod machine;
 mod multipliers;
 mod node;
 mod open_path;
-mod proposal;
 mod solved;
 mod solver;
 mod state;
@@ -18,7 +17,7 @@ pub use laws::{best_is_offered, enough_decides, runs_keep, splits_were_open};
 pub use machine::Core;
 pub use node::{Handled, Work, handle_node, split_place};
 pub use open_path::OpenPath;
-pub use proposal::Proposal;
+pub use simplex_proposer::Proposal;
 pub use solved::Solved;
 pub use solver::{SoloSolver, Solver, go_on};
 

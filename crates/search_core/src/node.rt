@@ -7,8 +7,8 @@ ghost use Rattle.search_core.specs.declared.node.Handled.TheVariants.{Better};
 
 use crate::boxes::{first_wide, middle_of};
 use crate::multipliers::is_closed;
-use crate::proposal::Proposal;
 use lin_bound::{Branch, Mult, Point, Problem, Region, closes, plain_mult};
+use simplex_proposer::Proposal;
 use sqlite_items::Items;
 use std::alloc::{AllocError, Global};
 

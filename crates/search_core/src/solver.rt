@@ -8,21 +8,22 @@ ghost use Rattle.cert_tree.specs.Laws.{IsPlainlyRight};
 ghost use Rattle.cert_tree.specs.Multipliers.{ActIsLegal};
 ghost use Rattle.search_core.specs.Search.{IsFound, value_in};
 ghost use Rattle.search_core.specs.Core.{begun, IsReady};
-ghost use Rattle.search_core.specs.Moves.{IsLowOf};
+ghost use Rattle.search_core.specs.Moves.{IsLowOf, IsBoxOf};
 ghost use Rattle.search_core.specs.Nodes.{IsWork};
 ghost use Rattle.search_core.specs.Kept.{IsKept};
 ghost use Rattle.search_core.specs.Runs.{start, going_on};
-ghost use Rattle.search_core.specs.Solo.{IsAlone, IsBegun, IsAdvanced};
+ghost use Rattle.search_core.specs.Solo.{IsAlone, IsBegun, IsAllOffered, IsInformed, IsAdvanced};
 ghost use Rattle.search_core.specs.Solver.{IsSolved, IsEndOf, IsSearched};
 
 use crate::event::Stepped;
 use crate::node::Work;
 use crate::open_path::{opened, paths_of};
-use crate::proposal::Proposal;
 use crate::solved::{Solved, best_value};
 use crate::state::State;
 use cert_tree::{Record, assemble, most_left};
-use lin_bound::{Path, Point, Problem, Region, box_of};
+use lin_bound::{Mult, Path, Point, Problem, Region, box_of, plain_mult};
+use round_proposer::round_points;
+use simplex_proposer::{Proposal, propose};
 use std::alloc::{AllocError, Global};
 
 /// What solves a problem exactly, or says what is left possible when the budget is spent.
@@ -75,42 +76,74 @@ pub fn go_on(
 {
     let mut region = box_of(alloc, problem, &Path::new(alloc))?;
     let mut work = Work::new(alloc, problem)?;
+    let mut hint = plain_mult(alloc, problem, 0)?;
     let left = opened(alloc, left)?;
     let mut state = State::new(alloc, budget, records, left, best);
     while state.has_next() {
-        do_next(alloc, problem, &mut state, &mut region, &mut work)?;
+        do_next(
+            alloc,
+            problem,
+            &mut state,
+            &mut region,
+            &mut hint,
+            &mut work,
+        )?;
     }
     finish(alloc, problem, state)
 }
 
-/// What is proposed for a node.
-fn propose(alloc: Global, problem: &Problem) -> Result<Proposal, AllocError>
-    ensures { IfOk result (λ proposal. IsMult problem.now proposal.mult) }
-{
-    Proposal::plain(alloc, problem)
-}
-
-/// Takes an open path and does its node.
+/// Takes an open path and does its node. The hint is multipliers of a node before it, which often close the box at once.
 fn do_next(
     alloc: Global,
     problem: &Problem,
     state: &mut State,
     region: &mut Region,
+    hint: &mut Mult,
     work: &mut Work,
 ) -> Result<(), AllocError>
     requires kept { IsKept problem.now state.old }
     requires region { IsRegion problem.now region.old }
+    requires hint { IsMult problem.now hint.old }
     requires work { IsWork problem.now work.old }
     requires idle { state.old.hands ≡ [] }
     requires room { begun state.old < state.old.budget }
     requires some { state.old.left ≢ [] }
     ensures advanced { IfOk result (λ _. IsAdvanced problem.now state.old state.new) }
     ensures region { IsRegion problem.now region.new }
+    ensures hint { IsMult problem.now hint.new }
     ensures work { IsWork problem.now work.new }
 {
     begin(state)?;
     state.show_box(problem, 0, region);
-    let proposal = propose(alloc, problem)?;
+    match state.close_at_once(alloc, problem, 0, hint, region)? {
+        Stepped::Done => Ok(()),
+        Stepped::NotEnabled => settle(alloc, problem, state, region, hint, work),
+    }
+}
+
+/// Closes or splits the box in hand by a new proposal, and offers points near it before.
+fn settle(
+    alloc: Global,
+    problem: &Problem,
+    state: &mut State,
+    region: &mut Region,
+    hint: &mut Mult,
+    work: &mut Work,
+) -> Result<(), AllocError>
+    requires kept { IsKept problem.now state.old }
+    requires region { IsRegion problem.now region.old }
+    requires hint { IsMult problem.now hint.old }
+    requires work { IsWork problem.now work.old }
+    requires alone { IsAlone state.old }
+    requires shown { IsBoxOf problem.now state.old 0 region.old }
+    ensures advanced { IfOk result (λ _. IsAdvanced problem.now state.old state.new) }
+    ensures region { IsRegion problem.now region.new }
+    ensures hint { IsMult problem.now hint.new }
+    ensures work { IsWork problem.now work.new }
+{
+    let proposal = propose(alloc, problem, region, hint)?;
+    remember(problem, &proposal.mult, hint);
+    offer_near(alloc, problem, region, &proposal.mult, state)?;
     match state.handle(alloc, problem, 0, &proposal, region, work)? {
         Stepped::Done => Ok(()),
         Stepped::NotEnabled => offer_and_close(alloc, problem, &proposal, state, region, work),
@@ -127,6 +160,51 @@ fn begin(state: &mut State) -> Result<(), AllocError>
     state.take_last(0)?;
     state.look(0);
     Ok(())
+}
+
+/// Makes the multipliers the hint for the next node, unless they weigh the cost alone or rows alone.
+fn remember(problem: &Problem, mult: &Mult, hint: &mut Mult)
+    requires mult { IsMult problem.now mult.now }
+    requires hint { IsMult problem.now hint.old }
+    ensures { IsMult problem.now hint.new }
+{
+    if mult.d == 0 {
+        return;
+    }
+    for row in 0..problem.row_count() {
+        if mult.lambda.as_slice()[row] > 0 {
+            hint.copy_from(mult);
+            return;
+        }
+    }
+}
+
+/// Offers points of the box in hand near the one that the multipliers prefer, and looks at the best value again.
+fn offer_near(
+    alloc: Global,
+    problem: &Problem,
+    region: &Region,
+    mult: &Mult,
+    state: &mut State,
+) -> Result<(), AllocError>
+    requires region { IsRegion problem.now region.now }
+    requires mult { IsMult problem.now mult.now }
+    requires alone { IsAlone state.old }
+    ensures { IfOk result (λ _. IsInformed problem.now state.old state.new) }
+{
+    let points = round_points(alloc, problem, region, mult)?;
+    offer_each(problem, points, state);
+    state.look(0);
+    Ok(())
+}
+
+/// Offers each of the points.
+fn offer_each(problem: &Problem, points: Vec<Point>, state: &mut State)
+    ensures { IsAllOffered problem.now state.old state.new }
+{
+    for point in points {
+        state.offer(problem, point);
+    }
 }
 
 /// Offers the one point of the box in hand, which is a better one and is in the work, and closes the box.

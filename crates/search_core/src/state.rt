@@ -11,15 +11,16 @@ ghost use Rattle.search_core.specs.Core.{IsTaken, IsLooked, IsOffered, IsRecorde
 ghost use Rattle.search_core.specs.Kept.{IsKept};
 ghost use Rattle.search_core.specs.Runs.{going_on};
 ghost use Rattle.search_core.specs.Moves.{IsLastTaken, IsClosing, IsSplitting, IsLowOf, IsBoxOf};
+ghost use Rattle.search_core.specs.Moves.{ClosesAtOnce, without_place};
 
 use crate::boxes::move_to;
 use crate::event::{Hand, Seen, Stepped};
 use crate::node::{Handled, Work, handle_node};
 use crate::open_path::OpenPath;
-use crate::proposal::Proposal;
 use crate::solved::best_value;
 use cert_tree::{Act, Record};
-use lin_bound::{Mult, Path, Point, Problem, Region};
+use lin_bound::{Mult, Path, Point, Problem, Region, closes};
+use simplex_proposer::Proposal;
 use std::alloc::{AllocError, Global};
 use std::marker::Model;
 
@@ -263,6 +264,39 @@ impl State {
         };
         let hand = &self.hands[place];
         move_to(problem, hand.path.path(), region);
+    }
+
+    /// A worker closes the box of its node, if these multipliers do so.
+    pub fn close_at_once(
+        &mut self,
+        alloc: Global,
+        problem: &Problem,
+        worker: u32,
+        mult: &Mult,
+        region: &Region,
+    ) -> Result<Stepped, AllocError>
+        requires kept { IsKept problem.now self.old }
+        requires mult { IsMult problem.now mult.now }
+        requires region { IsRegion problem.now region.now }
+        requires shown { IsBoxOf problem.now self.old worker region.now }
+        ensures ok { IfOk result (λ outcome. Outcome
+            (ClosesAtOnce problem.now self.old worker mult.now)
+            (IsRecorded problem.now self.old worker (without_place mult.now) self.new)
+            (self.new ≡ self.old) outcome) }
+        ensures err { OnErr result (self.new ≡ self.old) }
+    {
+        let Some(place) = place_of_hand(&self.hands, worker) else {
+            return Ok(Stepped::NotEnabled);
+        };
+        let hand = &self.hands[place];
+        let Seen::Looked(seen) = hand.seen else {
+            return Ok(Stepped::NotEnabled);
+        };
+        if !closes(problem, region, mult, seen) {
+            return Ok(Stepped::NotEnabled);
+        }
+        self.close(alloc, place, mult)?;
+        Ok(Stepped::Done)
     }
 
     /// A worker closes or splits the box of its node. If its one point is a better one, that is in the work.

@@ -1,6 +1,7 @@
 //! Problems solved by hand, nodes, and events one after another.
 ghost use Rattle.std.specs.Prelude.{◌≡◌, ◌∷◌, [], pos, IfOk};
 ghost use Rattle.lin_bound.specs.Problem.{IsLegal};
+ghost use Rattle.lin_bound.specs.Bound.{IsMult};
 ghost use Rattle.search_core.specs.Core.{Fits};
 
 use super::*;
@@ -63,6 +64,12 @@ fn fives(alloc: Global, budget: u32) -> Result<String, AllocError> {
     solve(alloc, &[5], rows, &[14], &[3], budget)
 }
 
+/// At most six of twelve that are worth 1 each.
+fn six_of_twelve(alloc: Global, budget: u32) -> Result<String, AllocError> {
+    let rows = one_row(alloc, &[1; 12])?;
+    solve(alloc, &[1; 12], rows, &[6], &[1; 12], budget)
+}
+
 /// An answer in words, with the number of its nodes.
 fn text(alloc: Global, solved: &Solved) -> Result<String, AllocError> {
     match solved {
@@ -106,8 +113,8 @@ fn found_text(alloc: Global, best: &Option<(i64, Point)>) -> Result<String, Allo
 #[test]
 fn odd_sums(rt: HostRuntime) -> Result<(), Fail> {
     let cases = [
-        (1, "at most 6, nothing by 3"),
-        (9, "at most 6, nothing by 11"),
+        (1, "at most 3, nothing by 3"),
+        (9, "at most 3, nothing by 11"),
         (15, "none by 11"),
     ];
     for (budget, want) in cases {
@@ -119,9 +126,9 @@ fn odd_sums(rt: HostRuntime) -> Result<(), Fail> {
 #[test]
 fn up_to_three_fives(rt: HostRuntime) -> Result<(), Fail> {
     let cases = [
-        (1, "at most 15, nothing by 3"),
-        (4, "at most 15, 5 at 1 by 5"),
-        (7, "best 10 at 2 by 7"),
+        (1, "at most 14, 10 at 2 by 3"),
+        (2, "at most 14, 10 at 2 by 3"),
+        (3, "best 10 at 2 by 3"),
     ];
     for (budget, want) in cases {
         assert_eq!(rt; fives(rt.alloc(), budget)?.as_str(), want);
@@ -131,7 +138,14 @@ fn up_to_three_fives(rt: HostRuntime) -> Result<(), Fail> {
 
 #[test]
 fn one_value_of_two(rt: HostRuntime) -> Result<(), Fail> {
-    assert_eq!(rt; one_of_two(rt.alloc(), 7)?.as_str(), "best 9 at 0 1 by 7");
+    assert_eq!(rt; one_of_two(rt.alloc(), 7)?.as_str(), "best 9 at 0 1 by 1");
+    Ok(())
+}
+
+#[test]
+fn six_ones_of_twelve(rt: HostRuntime) -> Result<(), Fail> {
+    let solved = six_of_twelve(rt.alloc(), 200)?;
+    assert_eq!(rt; solved.as_str(), "best 6 at 1 1 1 1 1 1 0 0 0 0 0 0 by 1");
     Ok(())
 }
 
@@ -146,10 +160,21 @@ fn some_fives(alloc: Global, upper: &[u64]) -> Result<Problem, AllocError>
     Ok(Problem::new(cost, rows, rhs, Items::from_slice(alloc, upper)?))
 }
 
+/// The multipliers of the cost alone, and a place that divides no box.
+fn plain_proposal(alloc: Global, problem: &Problem) -> Result<Proposal, AllocError>
+    ensures { IfOk result (λ proposal. IsMult problem.now proposal.mult) }
+{
+    Ok(Proposal {
+        mult: plain_mult(alloc, problem, 0)?,
+        var: 0,
+        at: u64::MAX,
+    })
+}
+
 /// What comes of the whole box for a value seen.
 fn handled(alloc: Global, problem: &Problem, seen: Option<i64>) -> Result<Handled, AllocError> {
     let region = box_of(alloc, problem, &Path::new(alloc))?;
-    let proposal = Proposal::plain(alloc, problem)?;
+    let proposal = plain_proposal(alloc, problem)?;
     let mut work = Work::new(alloc, problem)?;
     Ok(handle_node(problem, &region, seen, &proposal, &mut work))
 }
@@ -208,7 +233,7 @@ fn event_of(alloc: Global, worker: u32, word: u8) -> Result<Event, AllocError>
         b'k' => Event::Look { worker },
         b'h' => Event::Handle {
             worker,
-            proposal: Proposal::plain(alloc, &some_fives(alloc, &[3])?)?,
+            proposal: plain_proposal(alloc, &some_fives(alloc, &[3])?)?,
         },
         b'd' => Event::Drop { worker },
         digit => Event::Offer {

@@ -244,10 +244,10 @@ fn queries_that_are_answered(rt: HostRuntime) -> Result<(), Fail> {
     let infeasible = "{\"status\":\"infeasible\",\"version\":2}\n";
     let negative =
         "{\"objective\":\"-3\",\"package\":[[2,1]],\"status\":\"optimal\",\"version\":2}\n";
-    let none = "{\"bound\":\"6\",\"nodes\":1,\"status\":\"undecided\",\"version\":2}\n";
-    // Lower halves come first: 0 to 4, 0 to 2, 0 to 1, then the points 0 and 1.
+    let none = "{\"bound\":\"3\",\"nodes\":1,\"status\":\"undecided\",\"version\":2}\n";
+    // One node: 2.8 items would come to 14, and two of them are found.
     let some =
-        "{\"bound\":\"4\",\"nodes\":5,\"objective\":\"1\",\"package\":[[1,1]],\"status\":\"undecided\",\"version\":2}\n";
+        "{\"bound\":\"14\",\"nodes\":1,\"objective\":\"10\",\"package\":[[1,2]],\"status\":\"undecided\",\"version\":2}\n";
     for (rows, asks, budget, want) in [
         // Numbers are whole however they are written.
         ("(5.0), (-0)", "1 SUCH THAT SUM(P.v) <= 14", "", ten),
@@ -285,7 +285,7 @@ fn queries_that_are_answered(rt: HostRuntime) -> Result<(), Fail> {
             "BUDGET 15",
             infeasible,
         ),
-        ("(1)", "3 SUCH THAT SUM(P.v) <= 14", "BUDGET 5", some),
+        ("(5)", "2 SUCH THAT SUM(P.v) <= 14", "BUDGET 1", some),
     ] {
         let text = format!(in alloc;
             "SELECT PACKAGE(T) AS P FROM T REPEAT {asks} MAXIMIZE SUM(P.v) {budget}"

@@ -143,15 +143,15 @@ fn scripts_are_answered(rt: HostRuntime) -> Result<(), Fail> {
 #[test]
 fn budgets_are_kept(rt: HostRuntime) -> Result<(), Fail> {
     let alloc = rt.alloc();
-    let none = "{\"bound\":\"6\",\"nodes\":1,\"status\":\"undecided\",\"version\":2}\n";
-    // Lower halves come first: 0 to 4, 0 to 2, 0 to 1, then the points 0 and 1.
+    let none = "{\"bound\":\"3\",\"nodes\":1,\"status\":\"undecided\",\"version\":2}\n";
+    // One node: 2.8 items would come to 14, and two of them are found.
     let some =
-        "{\"bound\":\"4\",\"nodes\":5,\"objective\":\"1\",\"package\":[[1,1]],\"status\":\"undecided\",\"version\":2}\n";
+        "{\"bound\":\"14\",\"nodes\":1,\"objective\":\"10\",\"package\":[[1,2]],\"status\":\"undecided\",\"version\":2}\n";
     let odd = "0 SUCH THAT SUM(P.v) <= 3 AND SUM(P.v) >= 3";
     for (values, asks, ending, rows, want) in [
         ("(2),(2),(2)", odd, " BUDGET 1;", 3, none),
         ("(2),(2),(2)", odd, " BUDGET 15;", 3, INFEASIBLE),
-        ("(1)", "3 SUCH THAT SUM(P.v) <= 14", " BUDGET 5;", 1, some),
+        ("(5)", "2 SUCH THAT SUM(P.v) <= 14", " BUDGET 1;", 1, some),
         ("(5)", "2 SUCH THAT SUM(P.v) <= 14", " BUDGET 2000;", 1, TEN),
         (
             "(5)",
