@@ -1,0 +1,13 @@
+pub mod Lists
+pub mod Parting
+pub mod Runs
+pub mod Pushed
+pub mod Halving
+pub mod Divided
+pub mod Means
+pub mod Shrinking
+pub mod Rounds
+pub mod Adding
+pub mod SplitTurns
+pub mod Grouped
+pub mod Fits
