@@ -10,6 +10,3 @@ mod walk;
 pub use answer::{CheckAnswer, Reason};
 pub use checking::{check, check_nodes};
 pub use laws::first_fault_is_one;
-
-#[cfg(test)]
-mod tests;

@@ -6,7 +6,6 @@ pub mod Balance
 pub mod Tops
 mod Greatest
 pub mod Walking
-mod Worked
 pub mod Values
 pub mod Multipliers
 pub mod Paths

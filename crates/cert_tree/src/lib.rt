@@ -16,6 +16,3 @@ pub use laws::{
 pub use nodes::{Tree, TreeNode};
 pub use possible::most_left;
 pub use records::{Act, Record};
-
-#[cfg(test)]
-mod tests;

@@ -22,6 +22,3 @@ pub use plain::plain_closing;
 pub use points::Point;
 pub use problem::Problem;
 pub use region::{Region, box_of, try_box_of};
-
-#[cfg(test)]
-mod tests;

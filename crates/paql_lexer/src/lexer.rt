@@ -67,6 +67,3 @@ pub fn one_cut()
 pub fn no_cut()
     ensures { NoCut }
 {}
-
-#[cfg(test)]
-mod tests;

@@ -75,6 +75,3 @@ fn answer(alloc: Global, text: &[u8]) -> Result<Option<Statement>, ParseFault>
         Err(fault) => Err(fault),
     }
 }
-
-#[cfg(test)]
-mod tests;

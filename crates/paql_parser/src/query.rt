@@ -398,6 +398,3 @@ pub(crate) fn query<'a>(
     let (ending, rest) = read_ending(alloc, depth, head.package_name.as_slice(), rest)?;
     Ok((query_of(head, relation, constraints, ending), rest))
 }
-
-#[cfg(test)]
-mod tests;

@@ -14,6 +14,3 @@ mod writer;
 
 pub use laws::{canonical_is_one, canonical_is_read, statements_are_canonical};
 pub use statements::print;
-
-#[cfg(test)]
-mod tests;

@@ -15,6 +15,3 @@ mod source;
 pub use conditions::condition;
 pub use leaves::{column, comparison, lit, lits, signed};
 pub use source::{Source, name, number, sees, take, whole};
-
-#[cfg(test)]
-mod tests;

@@ -12,6 +12,3 @@ mod rounder;
 mod weights;
 
 pub use rounder::{MOST_POINTS, round_points};
-
-#[cfg(test)]
-mod tests;

@@ -223,6 +223,3 @@ fn of_package(
     let reply = of_version(alloc, status, version)?;
     reply.with(alloc, keys::PACKAGE, Field::Pairs(package))
 }
-
-#[cfg(test)]
-mod tests;

@@ -218,6 +218,3 @@ fn let_go(held: &mut Vec<u8>, start: usize) -> usize
     held.truncate(left);
     0
 }
-
-#[cfg(test)]
-mod tests;

@@ -386,6 +386,3 @@ pub fn not_built_line() -> &'static [u8]
 {
     b"{\"error\":\"notbuilt\",\"status\":\"refused\"}\n"
 }
-
-#[cfg(test)]
-mod tests;

@@ -233,6 +233,3 @@ pub fn reply_bytes(alloc: Global, reply: &Reply) -> Result<Vec<u8>, AllocError>
     bytes.extend_from_slice(reply.tail())?;
     Ok(bytes)
 }
-
-#[cfg(test)]
-mod tests;

@@ -18,6 +18,3 @@ mod turns;
 
 pub use proposal::Proposal;
 pub use proposer::propose;
-
-#[cfg(test)]
-mod tests;

@@ -1,6 +1,0 @@
-use Rattle.std.proofs.Common.{refl}
-use Rattle.lin_bound.proofs.Legal.{legal-from_test}
-use Rattle.simplex_proposer.proofs.tests.knapsack.Goals as goal
-
-pub one_row-requires : goal.one_row-requires
-one_row-requires c = legal-from_test _ refl
