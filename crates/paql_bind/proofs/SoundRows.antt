@@ -328,3 +328,7 @@ asked_of columns query bound row none is fit =
       conjuncts = subst (λ (all : List BoundConjunct). fits_conjuncts row all ≡ true) (sym (ap (λ (parts : BoundParts). parts.conjuncts) is)) (conjuncts_fit copies row fit query.conjuncts good.conjuncts);
       goal = subst (λ (goal : Option BoundGoal). fits_goal row goal ≡ true) (sym (ap (λ (parts : BoundParts). parts.goal) is)) (goal_fits copies row fit query.goal good.goal);
     }
+
+-- a condition can be asked of a row that fits the columns
+pub condition_fits : (scope : Scope) (row : List Cell) → FitsSchema scope.columns row → (pred : Pred) → pred_faults scope pred ≡ [] → fits row (bound_pred scope pred) ≡ true
+condition_fits scope row fit pred none = pred_fits scope row fit pred none

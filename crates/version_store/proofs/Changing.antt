@@ -14,7 +14,7 @@ use Rattle.snapshots.specs.States.{State, table_named, with_table}
 use Rattle.snapshots.specs.declared.tables.Table.{Table}
 use Rattle.version_store.specs.Faults.{made_fault, exists_faults, tables_faults, create_faults, change_faults, vacuum_faults}
 use Rattle.version_store.specs.Changes.{changed, on_table, on_named, inserted, new_entries, new_table, updated, is_met, put_all, with_entries, cut}
-use Rattle.version_store.specs.Built.{AscendsTo, AreApart}
+use Rattle.version_store.specs.Legal.{AscendsTo, AreApart}
 use Rattle.version_store.specs.Histories.{Mark, marks_of_table}
 use Rattle.version_store.specs.declared.changes.Change.{Change}
 use Rattle.version_store.specs.declared.changes.Change.TheVariants as changes

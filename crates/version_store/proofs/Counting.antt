@@ -9,7 +9,7 @@ use Rattle.std.proofs.lemmas.List.Concat.{flat_map-append}
 use Rattle.snapshots.specs.States.{State, nothing}
 use Rattle.snapshots.specs.declared.tables.Table.{Table}
 use Rattle.version_store.specs.Changes.{changed}
-use Rattle.version_store.specs.Built.{AreApart}
+use Rattle.version_store.specs.Legal.{AreApart}
 use Rattle.version_store.specs.Histories.{Commit, History, Mark, is_mark, is_marked, distinct, marks, marks_of_table, entries_kept, last_of, last_state, after, after_changes, all_faults, states_after, states_of, commit_faults, AreAccepted, IsHistory}
 use Rattle.version_store.specs.Counted.{fresh, all_fresh, counted, IsWilling, with_commit, Counts, CountedHistory}
 use Rattle.version_store.specs.declared.changes.Change.{Change}
@@ -17,7 +17,7 @@ use Rattle.version_store.specs.declared.faults.CommitKind.TheVariants.{LimitRows
 use Rattle.version_store.specs.declared.limits.TheConstants.{MAX_ENTRIES}
 use Rattle.version_store.proofs.Lists.{all_map, all_append}
 use Rattle.version_store.proofs.Marks.{Includes, Fresh, HasIds, name_of_table, distinct_fresh, marked_right, within_self, fresh_tables, last_more}
-use Rattle.version_store.proofs.Stores.{above_none}
+use Rattle.version_store.proofs.Longer.{above_none}
 use Rattle.version_store.proofs.Changing.{Marked, names_changed, ids_changed, low_changed, marks_changed}
 use Rattle.version_store.proofs.Legally.{BornBy, first_faultless, taken}
 use Rattle.version_store.proofs.Distinct.{filter_alike, is_new, mark_same, distinct_both, distinct_most}

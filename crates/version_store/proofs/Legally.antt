@@ -10,10 +10,9 @@ use Rattle.version_store.specs.Changes.{changed}
 use Rattle.version_store.specs.Histories.{Commit, History, Mark, above, numbered, last_state, new_version, insert_count, entries_kept, after, after_changes, all_faults, states_after, replay, commit_faults, AreAccepted, IsHistory}
 use Rattle.version_store.specs.Legal.{HasColumns, HaveColumns, IsLegal, AreLegal}
 use Rattle.version_store.specs.Counted.{IsWilling}
-use Rattle.version_store.specs.Stored.{version_faults}
 use Rattle.version_store.specs.declared.changes.Change.{Change}
-use Rattle.version_store.specs.declared.faults.CommitKind.TheVariants.{LimitCommit, LimitRows}
-use Rattle.version_store.specs.declared.limits.TheConstants.{MAX_COMMIT_ROWS, MAX_ENTRIES}
+use Rattle.version_store.specs.declared.faults.CommitKind.TheVariants.{LimitCommit, LimitRows, LimitVersions}
+use Rattle.version_store.specs.declared.limits.TheConstants.{MAX_COMMIT_ROWS, MAX_ENTRIES, MAX_VERSION}
 use Rattle.version_store.proofs.Lists.{both_empty, map_empty, all_map}
 use Rattle.version_store.proofs.Marks.{HasIds, last_more, entry_marks}
 use Rattle.version_store.proofs.Changing.{Marked, names_changed, few_changed, ids_changed, marks_changed}
@@ -67,7 +66,7 @@ legal_commit number high version state (change ∷ rest) are some e =
 
 -- what is empty of an accepted commit
 pub record IsTaken (states : List State) (commit : Commit) : Type 0 where
-  pub version : version_faults states ≡ []
+  pub version : above MAX_VERSION (new_version states) LimitVersions ≡ []
   pub changes : IsWilling states commit
   pub rows : above MAX_COMMIT_ROWS (insert_count commit) LimitCommit ≡ []
   pub entries : above MAX_ENTRIES (entries_kept (states ++ after states commit ∷ [])) LimitRows ≡ []
@@ -77,14 +76,14 @@ taken states commit e =
     let own = all_faults 1 (new_version states - 1) (new_version states) (last_state states) commit in
     let rows = above MAX_COMMIT_ROWS (insert_count commit) LimitCommit in
     let entries = above MAX_ENTRIES (entries_kept (states ++ after states commit ∷ [])) LimitRows in
-    let first = both_empty (version_faults states) (own ++ (rows ++ entries)) e in
+    let first = both_empty (above MAX_VERSION (new_version states) LimitVersions) (own ++ (rows ++ entries)) e in
     let second = both_empty own (rows ++ entries) first.1 in
     let third = both_empty rows entries second.1 in
     record { version = first.0; changes = second.0; rows = third.0; entries = third.1 }
 
 -- ---- a history
 
-legal_later : (one other : ℕ) (tables : List Table) → one ≤ other → AreLegal one tables → AreLegal other tables
+pub legal_later : (one other : ℕ) (tables : List Table) → one ≤ other → AreLegal one tables → AreLegal other tables
 legal_later one other tables later are = record {
   each = all_map (IsLegal one) (IsLegal other) tables (λ (table : Table) (is : IsLegal one table). record {
     columns = is.columns;

@@ -1,6 +1,6 @@
 -- Lemmas on lists.
-use Rattle.std.proofs.Common.{◌≡◌, ◌≢◌, ℕ, Bool, true, false, List, [], ◌∷◌, ◌++◌, None, Result, Ok, Err, refl, slice_get}
-use Rattle.std.specs.Prelude.{map, is_err, OnOk}
+use Rattle.std.proofs.Common.{◌≡◌, ◌≢◌, ℕ, Bool, true, false, List, [], ◌∷◌, ◌++◌, refl}
+use Rattle.std.specs.Prelude.{map}
 use Rattle.std.specs.List.{AllByRecursion}
 use Rattle.std.specs.Str.{bytes_eq}
 use Rattle.std.proofs.lemmas.Slice.Eq.{bytes_eq-Decides}
@@ -14,11 +14,6 @@ pub map_empty : {A B : Type 0} (f : A → B) (xs : List A) → map f xs ≡ [] �
 map_empty f [] e = refl
 map_empty f (x ∷ xs) e = absurd (cc)
 
--- a list without a first entry is empty
-pub none_first : {A : Type 0} (xs : List A) → None ≡ slice_get xs 0 → xs ≡ []
-none_first [] e = refl
-none_first (x ∷ xs) e = absurd (cc)
-
 pub all_map : {A : Type 0} (P Q : A → Type 0) (xs : List A) → ((x : A) → P x → Q x) → AllByRecursion P xs → AllByRecursion Q xs
 all_map P Q [] f all = tt
 all_map P Q (x ∷ xs) f all = (f x all.0, all_map P Q xs f all.1)
@@ -31,11 +26,6 @@ all_append P (x ∷ xs) ys all more = (all.0, all_append P xs ys all.1 more)
 pub all_at : {A : Type 0} (P : A → Type 0) (before after : List A) (x : A) → AllByRecursion P (before ++ x ∷ after) → P x
 all_at P [] after x all = all.0
 all_at P (y ∷ before) after x all = all_at P before after x all.1
-
--- another entry after a prefix
-pub all_put : {A : Type 0} (P : A → Type 0) (before after : List A) (x y : A) → AllByRecursion P (before ++ x ∷ after) → P y → AllByRecursion P (before ++ y ∷ after)
-all_put P [] after x y all new = (new, all.1)
-all_put P (z ∷ before) after x y all new = (all.0, all_put P before after x y all.1 new)
 
 -- ---- tests
 
@@ -56,7 +46,3 @@ names_differ one other apart = by_test (bytes_eq one other) refl
     by_test false is = is
 
 -- ---- answers
-
-pub when_ok : {T E P : Type 0} (answer : Result T E) (failed : Bool) → failed ≡ is_err answer → failed ≡ false → OnOk answer P → P
-when_ok (Ok x) failed is none given = given
-when_ok (Err error) failed is none given = absurd (cc)

@@ -1,15 +1,13 @@
--- Lemmas on the entries that are kept: those of growing tables are the entries of the last state.
-use Rattle.std.proofs.Common.{◌≡◌, ◌≢◌, ℕ, suc, ◌<◌, Bool, true, false, List, [], ◌∷◌, ◌++◌, length, drop, refl, ap, subst, ◌∙◌, append_assoc, append-nil, arith, eq-eqb}
+-- Lemmas on the marks of entries.
+use Rattle.std.proofs.Common.{◌≡◌, ◌≢◌, ℕ, suc, ◌<◌, Bool, true, false, List, [], ◌∷◌, ◌++◌, refl, ap, subst, append_assoc, arith, eq-eqb}
 use Rattle.std.specs.Prelude.{map, flat_map, ◌&&◌, ◌||◌}
 use Rattle.std.specs.List.{AllByRecursion}
-use Rattle.std.proofs.lemmas.List.Concat.{flat_map-append}
 use borrow.Author.Tests.{ne_eqb}
 use Rattle.snapshots.specs.Entries.{Entry}
 use Rattle.snapshots.specs.States.{State}
 use Rattle.snapshots.specs.declared.tables.Table.{Table}
-use Rattle.version_store.specs.Built.{AscendsTo, AreApart}
-use Rattle.version_store.specs.Histories.{Mark, is_mark, is_marked, distinct, marks, marks_of_table, entries_kept, last_of, last_state}
-use Rattle.snapshots.specs.States.{nothing}
+use Rattle.version_store.specs.Legal.{AscendsTo, AreApart}
+use Rattle.version_store.specs.Histories.{Mark, is_mark, is_marked, distinct, marks, marks_of_table, last_of}
 use Rattle.version_store.proofs.Lists.{names_same, names_differ}
 
 -- ---- marks in lists
@@ -29,10 +27,6 @@ or_none false b c f e = f e
 pub marked_right : (mark : Mark) (xs ys : List Mark) → is_marked mark ys ≡ true → is_marked mark (xs ++ ys) ≡ true
 marked_right mark [] ys e = e
 marked_right mark (x ∷ xs) ys e = or_right (is_mark mark x) (is_marked mark (xs ++ ys)) (marked_right mark xs ys e)
-
-pub marked_wider : (mark : Mark) (xs ys zs : List Mark) → (is_marked mark ys ≡ true → is_marked mark zs ≡ true) → is_marked mark (xs ++ ys) ≡ true → is_marked mark (xs ++ zs) ≡ true
-marked_wider mark [] ys zs f e = f e
-marked_wider mark (x ∷ xs) ys zs f e = or_wider (is_mark mark x) (is_marked mark (xs ++ ys)) (is_marked mark (xs ++ zs)) (marked_wider mark xs ys zs f) e
 
 pub neither : (mark : Mark) (xs ys : List Mark) → is_marked mark xs ≡ false → is_marked mark ys ≡ false → is_marked mark (xs ++ ys) ≡ false
 neither mark [] ys e f = f
@@ -58,14 +52,6 @@ within_after before (x ∷ xs) =
 
 pub within_self : (xs : List Mark) → AreWithin xs xs
 within_self xs = within_after [] xs
-
-pub within_wider : (xs ys zs : List Mark) → Includes ys zs → AreWithin xs ys → AreWithin xs zs
-within_wider [] ys zs f all = tt
-within_wider (x ∷ xs) ys zs f all = (f x all.0, within_wider xs ys zs f all.1)
-
-distinct_within : (xs ys : List Mark) → AreWithin xs ys → distinct (xs ++ ys) ≡ distinct ys
-distinct_within [] ys all = refl
-distinct_within (x ∷ xs) ys all = rw (marked_right x xs ys all.0) (distinct_within xs ys all.1)
 
 -- ---- lists that have each mark once
 
@@ -135,19 +121,8 @@ fresh_tables (table ∷ tables) ids names =
     (fresh_tables tables ids.1 names.1)
     (each_apart table.name table.entries tables names.0)
 
--- ---- the entries that are kept
+-- ---- the last state
 
 pub last_more : (first : State) (states : List State) (new : State) → last_of first (states ++ new ∷ []) ≡ new
 last_more first [] new = refl
 last_more first (state ∷ states) new = last_more state states new
-
-marks_more : (states : List State) (new : State) → flat_map marks (states ++ new ∷ []) ≡ flat_map marks states ++ marks new
-marks_more states new = flat_map-append marks states (new ∷ []) ∙ ap (λ (rest : List Mark). flat_map marks states ++ rest) (append-nil (marks new))
-
-pub kept_is : (states : List State) (new : State) → new.low ≡ 0 → AreWithin (flat_map marks states) (marks new) → Fresh (marks new) → entries_kept (states ++ new ∷ []) ≡ length (marks new)
-kept_is states new low within fresh =
-    let all = states ++ new ∷ [] in
-    let none : (last_state all).low ≡ 0 = ap (λ (state : State). state.low) (last_more nothing states new) ∙ low in
-    let whole : entries_kept all ≡ length (distinct (flat_map marks all)) = ap (λ (n : ℕ). length (distinct (flat_map marks (drop n all)))) none in
-    whole ∙ ap (λ (some : List Mark). length (distinct some)) (marks_more states new)
-    ∙ ap length (distinct_within (flat_map marks states) (marks new) within ∙ distinct_fresh (marks new) fresh)

@@ -1,10 +1,12 @@
--- Lemmas on tables by their names and places.
-use Rattle.std.proofs.Common.{◌≡◌, ◌≢◌, ℕ, ◌+◌, Bool, true, false, List, [], ◌∷◌, ◌++◌, length, Some, None, refl, ap, arith}
+-- Lemmas on tables by their names.
+use Rattle.std.proofs.Common.{◌≡◌, ◌≢◌, ℕ, Bool, true, false, List, [], ◌∷◌, ◌++◌, Some, None, refl, ap}
 use Rattle.std.specs.Prelude.{map}
-use Rattle.std.specs.List.{AllByRecursion, position_from}
+use Rattle.std.specs.List.{AllByRecursion}
+use Rattle.std.specs.Option.{option_map}
 use Rattle.std.specs.Str.{bytes_eq}
 use Rattle.schema_types.specs.declared.Column.{Column}
-use Rattle.snapshots.specs.States.{table_named, with_table}
+use Rattle.table_schema.specs.Named.{schema_of}
+use Rattle.snapshots.specs.States.{table_named}
 use Rattle.snapshots.specs.declared.tables.Table.{Table}
 use Rattle.version_store.proofs.Lists.{names_same, tests_apart}
 use Rattle.version_store.proofs.Marks.{name_of_table}
@@ -37,17 +39,6 @@ named_found name (first ∷ tables) table e = by_test (bytes_eq first.name name)
     by_test true is rest = let here : first ≡ table = let given = rw is at e in cc in rw (← here) (found_here name first tables is)
     by_test false is rest = found_later name first tables table is (rest (rw is at e))
 
-pub found_named : (name : List ℕ) (before after : List Table) (table : Table) → AllByRecursion (λ (other : Table). bytes_eq other.name name ≡ false) before → bytes_eq table.name name ≡ true → table_named name (before ++ table ∷ after) ≡ Some table
-found_named name [] after table others named = rw named refl
-found_named name (first ∷ before) after table others named = rw others.0 (found_named name before after table others.1 named)
-
--- another table of the same name in its place
-pub put_table : (name : List ℕ) (before after : List Table) (table new : Table) → AllByRecursion (λ (other : Table). bytes_eq other.name name ≡ false) before → bytes_eq table.name name ≡ true → new.name ≡ name → with_table new (before ++ table ∷ after) ≡ before ++ new ∷ after
-put_table name [] after table new others named same = rw (same, named) refl
-put_table name (first ∷ before) after table new others named same =
-    let other : bytes_eq first.name new.name ≡ false = rw same others.0 in
-    rw other (ap (λ (rest : List Table). first ∷ rest) (put_table name before after table new others.1 named same))
-
 -- no table has a name that isn't found
 pub not_there : (name : List ℕ) (tables : List Table) → table_named name tables ≡ None → AllByRecursion (λ (other : List ℕ). other ≢ name) (map name_of_table tables)
 not_there name [] e = tt
@@ -57,40 +48,14 @@ not_there name (table ∷ tables) e = by_test (bytes_eq table.name name) refl (n
     by_test true is rest = let given = rw is at e in absurd (cc)
     by_test false is rest = ((λ same. tests_apart _ (names_same table.name name same) is), rest (rw is at e))
 
--- ---- tables by their places
-
 abbrev pub columns_of : Table → List ℕ × List Column
 columns_of table = (table.name, table.columns)
 
-abbrev pub is_named : List ℕ → (List ℕ × List Column) → Bool
-is_named name table = bytes_eq table.0 name
-
--- a table that is found, and how many are before it
-pub record Placed (name : List ℕ) (start : ℕ) (tables : List Table) (place : ℕ) : Type 0 where
-  pub table : Table
-  pub found : Found name tables table
-  pub place_is : place ≡ start + length found.before
-
-pub place_found : (name : List ℕ) (start : ℕ) (tables : List Table) (place : ℕ) → position_from (λ (table : List ℕ × List Column). bytes_eq table.0 name) start (map columns_of tables) ≡ Some place → Placed name start tables place
-place_found name start [] place e = absurd (cc)
-place_found name start (first ∷ tables) place e = by_test (bytes_eq first.name name) refl (place_found name (start + 1) tables place)
+-- the columns that a name has are those of its table
+pub columns_named : (name : List ℕ) (tables : List Table) → schema_of name (map columns_of tables) ≡ option_map (λ (table : Table). table.columns) (table_named name tables)
+columns_named name [] = refl
+columns_named name (table ∷ tables) = by_test (bytes_eq table.name name) refl (columns_named name tables)
   where
-    by_test : (b : Bool) → bytes_eq first.name name ≡ b → (position_from (λ (table : List ℕ × List Column). bytes_eq table.0 name) (start + 1) (map columns_of tables) ≡ Some place → Placed name (start + 1) tables place) → Placed name start (first ∷ tables) place
-    by_test true is rest =
-        let here : start ≡ place = let given = rw is at e in cc in
-        record { table = first; found = found_here name first tables is; place_is = omega (arith, here) }
-    by_test false is rest =
-        let later = rest (rw is at e) in
-        record {
-          table = later.table;
-          found = found_later name first tables later.table is later.found;
-          place_is = omega (arith, later.place_is);
-        }
-
-pub none_placed : (name : List ℕ) (start : ℕ) (tables : List Table) → position_from (λ (table : List ℕ × List Column). bytes_eq table.0 name) start (map columns_of tables) ≡ None → table_named name tables ≡ None
-none_placed name start [] e = refl
-none_placed name start (first ∷ tables) e = by_test (bytes_eq first.name name) refl (none_placed name (start + 1) tables)
-  where
-    by_test : (b : Bool) → bytes_eq first.name name ≡ b → (position_from (λ (table : List ℕ × List Column). bytes_eq table.0 name) (start + 1) (map columns_of tables) ≡ None → table_named name tables ≡ None) → table_named name (first ∷ tables) ≡ None
-    by_test true is rest = let given = rw is at e in absurd (cc)
-    by_test false is rest = rw is (rest (rw is at e))
+    by_test : (b : Bool) → bytes_eq table.name name ≡ b → schema_of name (map columns_of tables) ≡ option_map (λ (table : Table). table.columns) (table_named name tables) → schema_of name (map columns_of (table ∷ tables)) ≡ option_map (λ (table : Table). table.columns) (table_named name (table ∷ tables))
+    by_test true is rest = rw is refl
+    by_test false is rest = rw is rest

@@ -1,6 +1,5 @@
--- Private: the laws `legal_changes` and `legal_histories` in `src/laws.rt`.
 -- What the tables of a history are, whatever its changes.
-use Rattle.std.specs.Prelude.{◌≡◌, ℕ, ◌<◌, ◌≤◌, List, [], map, length}
+use Rattle.std.specs.Prelude.{◌≡◌, ◌≢◌, ℕ, suc, ◌<◌, ◌≤◌, List, [], ◌∷◌, map, length}
 use Rattle.std.specs.List.{AllByRecursion}
 use Rattle.table_schema.specs.Columns.{IsSchema}
 use Rattle.table_schema.specs.Rows.{FitsSchema}
@@ -10,7 +9,6 @@ use Rattle.snapshots.specs.declared.tables.Table.{Table}
 use Rattle.version_store.specs.Faults.{change_faults}
 use Rattle.version_store.specs.Changes.{changed}
 use Rattle.version_store.specs.Histories.{History, replay, IsHistory}
-use Rattle.version_store.specs.Built.{AscendsTo, AreApart}
 use Rattle.version_store.specs.declared.changes.Change.{Change}
 use Rattle.version_store.specs.declared.changes.Change.TheVariants as changes
 use Rattle.version_store.specs.declared.limits.TheConstants.{MAX_TABLES}
@@ -22,6 +20,18 @@ HasColumns change = Unit {0}
 
 abbrev pub HaveColumns : History → Type 0
 HaveColumns history = AllByRecursion (AllByRecursion HasColumns) history
+
+-- ids that ascend from `low` on and are below `next`
+abbrev pub AscendsTo : ℕ → List Entry → ℕ → Type 0
+AscendsTo low [] next = low ≤ next
+AscendsTo low (entry ∷ entries) next =
+    (low ≤ entry.id) × AscendsTo (suc entry.id) entries next
+
+-- names of which no two are the same
+abbrev pub AreApart : List (List ℕ) → Type 0
+AreApart [] = Unit {0}
+AreApart (name ∷ names) =
+    AllByRecursion (λ (other : List ℕ). name ≢ other) names × AreApart names
 
 -- a table: its columns are those of a table, its ids ascend from 1 on and are below the next one,
 -- its rows fit, and none was written after the version

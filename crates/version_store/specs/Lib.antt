@@ -1,10 +1,14 @@
 pub mod Faults
 pub mod Changes
 pub mod Histories
-pub mod Built
 pub mod Answers
-pub mod Stored
+pub mod Performing
+pub mod Drafted
+pub mod Keeping
 pub mod Legal
 pub mod Counted
+pub mod Counts
 pub mod Laws
 pub mod Worked
+pub mod Vaults
+pub mod Visits

@@ -1,5 +1,5 @@
 //! Laws of histories, for those who read the definitions.
-ghost use Rattle.version_store.specs.Laws.{LongerHistories, BuiltHistories, FoundTables};
+ghost use Rattle.version_store.specs.Laws.{LongerHistories};
 ghost use Rattle.version_store.specs.Legal.{LegalChanges, LegalHistories};
 ghost use Rattle.version_store.specs.Counted.{CountedEntries};
 ghost use Rattle.version_store.specs.Worked.{AreWorked};
@@ -12,16 +12,6 @@ pub fn worked_histories()
 /// One more commit makes one more version, after those that are there.
 pub fn longer_histories()
     ensures { LongerHistories }
-{}
-
-/// What CREATE and INSERT alone leave are tables, with no more entries than are kept.
-pub fn built_histories()
-    ensures { BuiltHistories }
-{}
-
-/// The columns and the rows that a name has are those of one table, and fit one another.
-pub fn found_tables()
-    ensures { FoundTables }
 {}
 
 /// Any change that isn't refused leaves tables as they have to be, within a commit too.

@@ -2,12 +2,26 @@
 #![tactic(auto)]
 
 mod changes;
+mod conditions;
+mod creating;
+mod deleting;
+mod draft;
 mod faults;
+mod inserting;
+mod kinds;
 pub mod laws;
 mod limits;
-mod refusals;
-mod rows;
+mod memory;
+mod naming;
+mod partitioning;
+mod performing;
+mod setting;
 mod store;
+mod tables;
+mod totals;
+mod updating;
+mod vault;
+mod versions;
 
 pub use changes::{Change, Commit};
 pub use faults::{CommitFault, CommitKind, PartitionFault, RowKind, TableFault};
@@ -15,7 +29,9 @@ pub use limits::{
     MAX_COMMIT_ROWS, MAX_ENTRIES, MAX_PARTITION_COLUMNS, MAX_PARTITION_SIZE, MAX_TABLES,
     MAX_VERSION,
 };
-pub use store::VersionStore;
+pub use memory::MemVault;
+pub use store::{Committed, VaultFault, VersionStore};
+pub use vault::{SoloVault, Vault};
 
 #[cfg(test)]
 mod tests;

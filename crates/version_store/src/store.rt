@@ -1,39 +1,52 @@
 //! The store.
-ghost use Rattle.std.specs.Prelude.{◌≡◌, ◌<◌, ◌≤◌, [], ◌∷◌, length, ◌++◌, Some, IfOk, IfSome, MatchOption, MatchResult, map, slice_get};
-ghost use Rattle.std.specs.Option.{option_copied};
-ghost use Rattle.std.specs.Vec.{vec_len, vec_capacity};
-ghost use Rattle.package_query.specs.Package.{AscendsFrom};
-ghost use Rattle.snapshots.specs.States.{schemas, rows_named};
-ghost use Rattle.version_store.specs.Histories.{states_of, replay, commit_faults, marks, numbered, IsHistory};
-ghost use Rattle.version_store.specs.Built.{AreBuilt, AreTables};
-ghost use Rattle.version_store.specs.declared.limits.TheConstants.{MAX_VERSION};
-ghost use Rattle.version_store.specs.Answers.{IsAccepted, IsRefused, Refuses};
-ghost use Rattle.version_store.specs.Stored.{table_place, version_faults, name_faults, count_faults};
+ghost use Rattle.std.specs.Prelude.{◌≡◌, ◌+◌, ◌<◌, ◌≤◌, [], ◌∷◌, ◌++◌, drop, length, IfOk, IfSome, MatchResult};
+ghost use Rattle.std.specs.List.{AllByRecursion};
+ghost use Rattle.version_store.specs.Answers.{AnswersCommit, AnswersVersion, Refuses, shown, state_at};
+ghost use Rattle.version_store.specs.Counted.{all_fresh, counted};
+ghost use Rattle.version_store.specs.Counts.{entries_in, written_in};
+ghost use Rattle.version_store.specs.Histories.{above, commit_faults, insert_count, numbered, replay, states_of, IsHistory};
+ghost use Rattle.version_store.specs.Laws.{HaveRows};
+ghost use Rattle.version_store.specs.Legal.{HasColumns, HaveColumns};
+ghost use Rattle.version_store.specs.Keeping.{IsReady, with_tables};
+ghost use Rattle.version_store.specs.declared.faults.CommitKind.TheVariants.{LimitCommit, LimitRows};
+ghost use Rattle.version_store.specs.declared.limits.TheConstants.{MAX_COMMIT_ROWS, MAX_ENTRIES, MAX_VERSION};
 
 use crate::changes::{Change, Commit};
-use crate::faults::{CommitFault, CommitKind, TableFault};
-use crate::limits::{MAX_COMMIT_ROWS, MAX_ENTRIES, MAX_TABLES, MAX_VERSION};
-use crate::refusals::{
-    new_schema, no_table, of_change, of_commit, out_of_memory, rows_fault, table_exists,
-};
-use crate::rows::{TableRows, new_rows};
-use paql_bind::Refusal;
-use schema_types::{Column, Lit, Text};
+use crate::draft::Draft;
+use crate::faults::{CommitFault, CommitKind};
+use crate::limits::{MAX_COMMIT_ROWS, MAX_ENTRIES, MAX_VERSION};
+use crate::performing::{inserted_by, out_of_memory, perform_all};
+use crate::totals::{entries_in, written_in};
+use crate::versions::{Kept, after, drop_first, fresh_in, one_at, put};
+use snapshots::{Shared, Snapshot, Table};
 use sqlite_items::Items;
 use std::alloc::{AllocError, Global};
 use std::marker::Model;
-use table_schema::{Row, Schema, Schemas};
 
-/// A history of commits, and the tables after the last of them. Contracts see the history.
+/// What an accepted commit made.
+#[derive(Clone, Copy, Debug, PartialEq, Eq)]
+pub struct Committed {
+    /// The version that it made.
+    pub version: u64,
+    /// The rows that it changed.
+    pub rows: u64,
+}
+
+/// Why there is no snapshot of a version.
+#[derive(Clone, Copy, Debug, PartialEq, Eq)]
+pub enum VaultFault {
+    /// The version isn't kept, or isn't there.
+    Unkept { asked: u64, low: u64, high: u64 },
+    Memory(AllocError),
+}
+
+/// A history of commits, and the versions of the tables that are kept. Contracts see the history.
 #[derive(Drop)]
 pub struct VersionStore {
     commits: Vec<Commit>,
-    /// The tables with their columns, in the order in which they were made.
-    schemas: Schemas,
-    /// Their rows, in the same order.
-    tables: Vec<TableRows>,
-    /// The number of rows of all tables.
-    entries: u64,
+    /// The versions from `low` on.
+    kept: Vec<Kept>,
+    low: u64,
 }
 
 impl Model for VersionStore {
@@ -41,29 +54,38 @@ impl Model for VersionStore {
     ghost use Rattle.std.specs.Coded.{codes};
     ghost use Rattle.paql_ast.specs.contracts.conditions.Pred as pred;
     ghost use Rattle.version_store.specs.declared.changes.Change.{Change};
+    ghost use Rattle.version_store.specs.Keeping.{IsStored};
 
     ghost Value = { List (List Change) };
 
     ghost coded = { Prim.hlevel (codes, pred.the_row.coded) };
 
-    ghost use Rattle.version_store.specs.Stored.{IsStored};
-
     ghost view = { λ s. s.commits.items };
 
-    ghost invariant = { λ s. IsStored s.commits.items s.schemas s.tables.items s.entries };
+    ghost invariant = { λ s. IsStored s.commits.items s.kept.items s.low };
+}
+
+/// A version that a commit without a fault makes, and what is kept with it.
+#[derive(Drop)]
+struct Prepared {
+    low: u64,
+    rows: u64,
+    version: Kept,
 }
 
 impl VersionStore {
-    /// No commit. It takes no memory.
-    pub fn new(alloc: Global) -> VersionStore
-        ensures { result ≡ [] }
+    /// No commit, and version 0 without a table.
+    pub fn new(alloc: Global) -> Result<VersionStore, AllocError>
+        ensures { IfOk result (λ store. store ≡ []) }
     {
-        VersionStore {
+        let snapshot = Snapshot::new(alloc, 0, Items::new(alloc))?;
+        let mut kept = Vec::with_capacity(alloc, 1)?;
+        kept.push(Kept { snapshot, fresh: 0 })?;
+        Ok(VersionStore {
             commits: Vec::new(alloc),
-            schemas: Items::new(alloc),
-            tables: Vec::new(alloc),
-            entries: 0,
-        }
+            kept,
+            low: 0,
+        })
     }
 
     /// The number of commits.
@@ -71,218 +93,190 @@ impl VersionStore {
         ensures value { result ≡ length self.now }
         ensures few { result ≤ MAX_VERSION }
         ensures accepted { IsHistory self.now }
-        ensures built { AreBuilt self.now }
+        ensures built { HaveColumns self.now }
     {
         self.commits.len() as u64
     }
 
-    /// The tables with their columns, in the order in which they were made.
-    pub fn schemas(&self) -> &Schemas
-        ensures value { result.now ≡ schemas (replay self.now) }
-        ensures tables { AreTables (replay self.now).tables }
+    /// The least version that is kept.
+    pub fn low(&self) -> u64
+        ensures value { result ≡ (replay self.now).low }
+        ensures within { result ≤ length self.now }
     {
-        &self.schemas
+        self.low
     }
 
-    /// The rows of a table after their ids, or None if there is no such table.
-    pub fn rows(&self, table: &[u8]) -> Option<&[(u64, Row)]>
-        ensures value { option_copied result ≡ rows_named table.now (replay self.now).tables }
-        ensures ids { IfSome result (λ rows. AscendsFrom 0 rows.now) }
-        ensures tables { AreTables (replay self.now).tables }
-    {
-        match self.place_of(table) {
-            Some(place) => Some(self.tables[place].rows()),
-            None => None,
-        }
-    }
-
-    /// The place of a table.
-    fn place_of(&self, table: &[u8]) -> Option<usize>
-        ensures value { result ≡ table_place table.now (schemas (replay self.now)) }
-        ensures within { IfSome result (λ place. place < length (replay self.now).tables) }
-        ensures tables { AreTables (replay self.now).tables }
-    {
-        self.schemas
-            .as_slice()
-            .iter()
-            .position(|known| known.0.as_slice() == table)
-    }
-
-    /// A new table with these columns. The schema and the history each keep the columns.
-    pub fn create(
+    /// A commit makes a version, or is handed back with its first fault, or because memory is out.
+    pub fn commit(
         &mut self,
         alloc: Global,
-        table: Text,
-        columns: Items<Column>,
-    ) -> Result<(), CommitFault>
-        requires { 0 < length columns }
-        ensures { MatchResult result
-            (λ _. IsAccepted self.old self.new (Change.Create table columns ∷ []))
-            (λ fault. IsRefused self.old self.new (Change.Create table columns ∷ []) fault) }
+        commit: Commit,
+    ) -> Result<Committed, (CommitFault, Commit)>
+        ensures { AnswersCommit self.old self.new commit result }
     {
-        let schema = self.create_schema(alloc, table.as_slice(), columns.as_slice())?;
-        let Ok(name) = Items::from_slice(alloc, table.as_slice()) else {
-            return Err(out_of_memory());
-        };
-        let Ok(commit) = single(alloc, Change::Create { table, columns }) else {
-            return Err(out_of_memory());
-        };
-        if self.commits.reserve(1).is_err() || self.tables.reserve(1).is_err() {
-            return Err(out_of_memory());
+        match self.prepared(alloc, commit.legal()) {
+            Ok(ready) => self.keep(ready, commit),
+            Err(fault) => Err((fault, commit)),
         }
-        if self.schemas.push((name, schema)).is_err() {
-            return Err(out_of_memory());
-        }
-        put(&mut self.tables, TableRows::new(alloc));
-        put(&mut self.commits, commit);
-        Ok(())
     }
 
-    /// New rows of a table, with its next ids.
-    pub fn insert(
-        &mut self,
-        alloc: Global,
-        table: Text,
-        rows: Items<Items<Lit>>,
-    ) -> Result<(), CommitFault>
-        ensures { MatchResult result
-            (λ _. IsAccepted self.old self.new (Change.Insert table rows ∷ []))
-            (λ fault. IsRefused self.old self.new (Change.Insert table rows ∷ []) fault) }
+    /// The last version.
+    pub fn snapshot(&self) -> Result<Snapshot, AllocError>
+        ensures value { IfOk result (λ snapshot. snapshot ≡ shown self.now (length self.now)) }
+        ensures rows { IfOk result (λ snapshot. HaveRows snapshot.tables) }
     {
-        let place = self.insert_place(alloc, table.as_slice(), rows.as_slice())?;
-        let count = rows.len() as u64;
-        let schema = &self.schemas.as_slice()[place].1;
-        let next = self.tables[place].next();
-        let Ok(new) = new_rows(alloc, schema, next, rows.as_slice()) else {
-            return Err(out_of_memory());
-        };
-        let Ok(commit) = single(alloc, Change::Insert { table, rows }) else {
-            return Err(out_of_memory());
-        };
-        if self.commits.reserve(1).is_err() || self.tables[place].append(new).is_err() {
-            return Err(out_of_memory());
-        }
-        self.entries += count;
-        put(&mut self.commits, commit);
-        Ok(())
+        self.kept_at(self.version()).share()
     }
+
+    /// A version, if it is kept.
+    pub fn snapshot_at(&self, version: u64) -> Result<Snapshot, VaultFault>
+        ensures value { AnswersVersion self.now version result }
+        ensures rows { IfOk result (λ snapshot. HaveRows snapshot.tables) }
+    {
+        let low = self.low;
+        let high = self.version();
+        if version < low {
+            return Err(unkept(version, low, high));
+        }
+        if high < version {
+            return Err(unkept(version, low, high));
+        }
+        match self.kept_at(version).share() {
+            Ok(snapshot) => Ok(snapshot),
+            Err(error) => Err(VaultFault::Memory(error)),
+        }
+    }
+}
+
+fn unkept(asked: u64, low: u64, high: u64) -> VaultFault
+    ensures { result ≡ VaultFault.Unkept asked low high }
+{
+    VaultFault::Unkept { asked, low, high }
 }
 
 impl VersionStore {
-    /// The schema of a new table, unless it is refused.
-    fn create_schema(
-        &self,
-        alloc: Global,
-        table: &[u8],
-        columns: &[Column],
-    ) -> Result<Schema, CommitFault>
-        requires { 0 < length columns.now }
-        ensures { MatchResult result
-            (λ schema. (schema ≡ columns.now) × (commit_faults (states_of self.now)
-            (Change.Create table.now columns.now ∷ []) ≡ []))
-            (λ fault. Refuses (commit_faults (states_of self.now)
-            (Change.Create table.now columns.now ∷ [])) fault) }
+    /// A version that is kept.
+    fn kept_at(&self, version: u64) -> &Snapshot
+        requires low { (replay self.now).low ≤ version }
+        requires high { version ≤ length self.now }
+        ensures value { result.now ≡ shown self.now version }
+        ensures rows { HaveRows result.now.tables }
     {
-        if let Some(fault) = self.version_fault() {
-            return Err(fault);
-        }
-        let schema = new_schema(alloc, columns)?;
-        match self.name_fault(alloc, table) {
-            Some(fault) => Err(fault),
-            None => Ok(schema),
-        }
+        let place = (version - self.low) as usize;
+        &one_at(self.kept.as_slice(), place).snapshot
     }
 
-    /// The place of the table, unless new rows of it are refused.
-    fn insert_place(
-        &self,
-        alloc: Global,
-        table: &[u8],
-        rows: &[Items<Lit>],
-    ) -> Result<usize, CommitFault>
-        ensures { MatchResult result
-            (λ place. (table_place table.now (schemas (replay self.now)) ≡ Some place)
-            × (place < length (replay self.now).tables)
-            × (commit_faults (states_of self.now)
-            (Change.Insert table.now rows.now ∷ []) ≡ []))
-            (λ fault. Refuses (commit_faults (states_of self.now)
-            (Change.Insert table.now rows.now ∷ [])) fault) }
+    /// The version that the changes make, unless they are refused.
+    fn prepared(&self, alloc: Global, changes: &[Change]) -> Result<Prepared, CommitFault>
+        requires { AllByRecursion HasColumns changes.now }
+        ensures { MatchResult result (λ ready. IsReady self.now changes.now ready.low ready.rows ready.version)
+            (λ fault. Refuses (commit_faults (states_of self.now) changes.now) fault) }
     {
-        if let Some(fault) = self.version_fault() {
-            return Err(fault);
+        let high = self.version();
+        let version = high + 1;
+        if MAX_VERSION < version {
+            return Err(of_commit(CommitKind::LimitVersions(version)));
         }
-        let Some(place) = self.place_of(table) else {
-            return Err(of_change(no_table(alloc, table)));
+        let Ok(mut draft) = Draft::of(alloc, self.low, self.kept_at(high)) else {
+            return Err(out_of_memory());
         };
-        if let Some(fault) = rows_fault(alloc, &self.schemas.as_slice()[place].1, rows) {
-            return Err(fault);
-        }
-        match self.count_fault(rows.len()) {
-            Some(fault) => Err(fault),
-            None => Ok(place),
-        }
+        let rows = perform_all(alloc, high, version, changes, &mut draft)?;
+        check_inserted(changes)?;
+        let low = draft.low();
+        let tables = draft.into_tables();
+        let fresh = self.check_entries(low, version, tables.as_slice())?;
+        let Ok(snapshot) = Snapshot::new(alloc, version, tables) else {
+            return Err(out_of_memory());
+        };
+        Ok(Prepared {
+            low,
+            rows,
+            version: Kept { snapshot, fresh },
+        })
     }
 
-    /// A commit would make too many versions.
-    fn version_fault(&self) -> Option<CommitFault>
-        ensures fault { result ≡ slice_get (version_faults (states_of self.now)) 0 }
-        ensures accepted { IsHistory self.now }
-        ensures built { AreBuilt self.now }
+    /// How many of the entries of the tables are new, unless too many are kept with them.
+    fn check_entries(
+        &self,
+        low: u64,
+        version: u64,
+        tables: &[Shared<Table>],
+    ) -> Result<u64, CommitFault>
+        requires least { (replay self.now).low ≤ low }
+        requires most { low ≤ length self.now }
+        requires version { version ≡ length self.now + 1 }
+        ensures { MatchResult result
+            (λ fresh. (fresh ≡ written_in version tables.now) × (above MAX_ENTRIES
+            (counted low (with_tables self.now low tables.now)) LimitRows ≡ []))
+            (λ fault. Refuses (above MAX_ENTRIES
+            (counted low (with_tables self.now low tables.now)) LimitRows) fault) }
     {
-        let version = self.version();
-        if version < MAX_VERSION {
-            return None;
-        }
-        Some(of_commit(CommitKind::LimitVersions(version + 1)))
-    }
-
-    /// A table of this name can't be made.
-    fn name_fault(&self, alloc: Global, table: &[u8]) -> Option<CommitFault>
-        ensures { MatchOption result
-            (name_faults (replay self.now).tables table.now ≡ [])
-            (λ fault. Refuses (map (numbered 1)
-            (name_faults (replay self.now).tables table.now)) fault) }
-    {
-        if self.place_of(table).is_some() {
-            return Some(of_change(table_exists(alloc, table)));
-        }
-        let count = self.schemas.len();
-        if count < MAX_TABLES {
-            return None;
-        }
-        let limit = TableFault::LimitTables(count as u64 + 1);
-        Some(of_change(Ok(CommitKind::Table(limit))))
-    }
-
-    /// So many new rows are too many.
-    fn count_fault(&self, count: usize) -> Option<CommitFault>
-        ensures { result ≡ slice_get (count_faults (length (marks (replay self.now))) count) 0 }
-    {
-        let count = count as u64;
-        if MAX_COMMIT_ROWS < count {
-            return Some(of_commit(CommitKind::LimitCommit(count)));
-        }
-        let entries = self.entries + count;
+        let Some(fresh) = written_in(tables, version) else {
+            return Err(out_of_memory());
+        };
+        let Some(entries) = self.entries_with(low, fresh) else {
+            return Err(out_of_memory());
+        };
         if MAX_ENTRIES < entries {
-            return Some(of_commit(CommitKind::LimitRows(entries)));
+            return Err(of_commit(CommitKind::LimitRows(entries)));
         }
-        None
+        Ok(fresh)
+    }
+
+    /// How many entries are kept from the version `low` on, with some more.
+    fn entries_with(&self, low: u64, more: u64) -> Option<u64>
+        requires least { (replay self.now).low ≤ low }
+        requires most { low ≤ length self.now }
+        ensures { IfSome result (λ count. count ≡ entries_in (state_at self.now low).tables
+            + (all_fresh (low + 1) (drop (low + 1) (states_of self.now)) + more)) }
+    {
+        let place = (low - self.low) as usize;
+        let shown = entries_in(self.kept_at(low).tables())?;
+        let wrote = fresh_in(after(self.kept.as_slice(), place))?;
+        let later = wrote.checked_add(more)?;
+        let all = shown.checked_add(later)?;
+        Some(all)
+    }
+
+    /// Keeps the version of a commit that has no fault, and gives up those below its low.
+    fn keep(&mut self, ready: Prepared, commit: Commit) -> Result<Committed, (CommitFault, Commit)>
+        requires ready { IsReady self.old commit ready.low ready.rows ready.version }
+        requires columns { AllByRecursion HasColumns commit }
+        ensures { AnswersCommit self.old self.new commit result }
+    {
+        if self.commits.reserve(1).is_err() || self.kept.reserve(1).is_err() {
+            return Err((out_of_memory(), commit));
+        }
+        let committed = Committed {
+            version: ready.version.snapshot.version,
+            rows: ready.rows,
+        };
+        drop_first(&mut self.kept, (ready.low - self.low) as usize);
+        put(&mut self.kept, ready.version);
+        put(&mut self.commits, commit);
+        self.low = ready.low;
+        Ok(committed)
     }
 }
 
-/// A commit of one change.
-fn single(alloc: Global, change: Change) -> Result<Commit, AllocError>
-    ensures { IfOk result (λ commit. commit ≡ change ∷ []) }
+/// The whole commit is refused.
+fn of_commit(kind: CommitKind) -> CommitFault
+    ensures { result ≡ numbered 0 kind }
 {
-    let mut commit = Items::new(alloc);
-    commit.push(change)?;
-    Ok(commit)
+    CommitFault { change: 0, kind }
 }
 
-/// Appends to a list that has room.
-fn put<T: Drop>(list: &mut Vec<T>, item: T)
-    requires { vec_len list.old < vec_capacity list.old }
-    ensures { list.new.items ≡ list.old.items ++ item ∷ [] }
+/// The changes don't insert too many rows.
+fn check_inserted(changes: &[Change]) -> Result<(), CommitFault>
+    ensures { MatchResult result
+        (λ _. above MAX_COMMIT_ROWS (insert_count changes.now) LimitCommit ≡ [])
+        (λ fault. Refuses (above MAX_COMMIT_ROWS (insert_count changes.now) LimitCommit) fault) }
 {
-    let _ = list.push(item);
+    let Some(count) = inserted_by(changes) else {
+        return Err(out_of_memory());
+    };
+    if MAX_COMMIT_ROWS < count {
+        return Err(of_commit(CommitKind::LimitCommit(count)));
+    }
+    Ok(())
 }

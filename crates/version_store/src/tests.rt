@@ -1,8 +1,7 @@
-//! A store is made, and refuses.
+//! A store is made, changed and asked for its versions.
 ghost use Rattle.std.specs.Prelude.{◌<◌, length, IfOk};
 
-use crate::{CommitFault, CommitKind, MAX_TABLES, RowKind, TableFault, VersionStore};
-use paql_bind::Refusal;
+use crate::{Change, Commit, CommitKind, Committed, MemVault, Vault, VaultFault, VersionStore};
 use pq_base::Scaled;
 use schema_types::{Column, Kind, Lit, Text};
 use sqlite_items::Items;
@@ -13,157 +12,191 @@ fn name(alloc: Global, bytes: &[u8]) -> Result<Text, AllocError> {
     Items::from_slice(alloc, bytes)
 }
 
-// One column of decimals with so many digits after the point.
-fn column(alloc: Global, scale: u64) -> Result<Items<Column>, AllocError>
+// One column of whole numbers.
+fn column(alloc: Global) -> Result<Items<Column>, AllocError>
     ensures { IfOk result (λ columns. 0 < length columns) }
 {
     let mut columns = Items::new(alloc);
     columns.push(Column {
         name: name(alloc, b"v")?,
-        kind: Kind::Dec(scale),
+        kind: Kind::Int,
     })?;
     Ok(columns)
 }
 
-// So many rows of as many ones as there are columns.
-fn ones(alloc: Global, rows: usize, columns: usize) -> Result<Items<Items<Lit>>, AllocError> {
+fn one() -> Lit {
+    Lit::Num(Scaled::of(1, 0))
+}
+
+// So many rows of a one.
+fn ones(alloc: Global, rows: usize) -> Result<Items<Items<Lit>>, AllocError> {
     let mut list = Items::new(alloc);
     for _ in 0..rows {
         let mut row = Items::new(alloc);
-        for _ in 0..columns {
-            row.push(Lit::Num(Scaled::of(1, 0)))?;
-        }
+        row.push(one())?;
         list.push(row)?;
     }
     Ok(list)
 }
 
+fn create(alloc: Global, commit: &mut Commit) -> Result<(), AllocError> {
+    let table = name(alloc, b"T")?;
+    let columns = column(alloc)?;
+    commit.push(Change::Create { table, columns })
+}
+
+fn insert(alloc: Global, commit: &mut Commit, rows: usize) -> Result<(), AllocError> {
+    let table = name(alloc, b"T")?;
+    let rows = ones(alloc, rows)?;
+    commit.push(Change::Insert { table, rows })
+}
+
+fn delete(alloc: Global, commit: &mut Commit) -> Result<(), AllocError> {
+    let table = name(alloc, b"T")?;
+    commit.push(Change::Delete {
+        table,
+        filter: None,
+    })
+}
+
+// Every row has a one, as before.
+fn update(alloc: Global, commit: &mut Commit) -> Result<(), AllocError> {
+    let table = name(alloc, b"T")?;
+    let mut sets = Items::new(alloc);
+    sets.push((name(alloc, b"v")?, one()))?;
+    commit.push(Change::Update {
+        table,
+        sets,
+        filter: None,
+    })
+}
+
+// A commit that inserts so many rows.
+fn inserts(alloc: Global, rows: usize) -> Result<Commit, AllocError> {
+    let mut commit = Commit::new(alloc);
+    insert(alloc, &mut commit, rows)?;
+    Ok(commit)
+}
+
+fn vacuum(alloc: Global, version: u64) -> Result<Commit, AllocError> {
+    let mut commit = Commit::new(alloc);
+    commit.push(Change::Vacuum { version })?;
+    Ok(commit)
+}
+
+// A commit that makes `T` with two rows.
+fn making(alloc: Global) -> Result<Commit, AllocError> {
+    let mut commit = Commit::new(alloc);
+    create(alloc, &mut commit)?;
+    insert(alloc, &mut commit, 2)?;
+    Ok(commit)
+}
+
 fn made(alloc: Global) -> Result<VersionStore, AllocError> {
-    let mut store = VersionStore::new(alloc);
-    match store.create(alloc, name(alloc, b"T")?, column(alloc, 2)?) {
-        Ok(()) => Ok(store),
+    let mut store = VersionStore::new(alloc)?;
+    match store.commit(alloc, making(alloc)?) {
+        Ok(_) => Ok(store),
         Err(_) => Err(AllocError),
     }
 }
 
-// The version, and how many rows `T` has.
-fn sizes(store: &VersionStore) -> (u64, Option<usize>) {
-    (store.version(), store.rows(b"T").map(|rows| rows.len()))
+// How many rows `T` has in a version, and the id of the last one, if there is one.
+fn rows_at(store: &VersionStore, version: u64) -> Option<(usize, u64)> {
+    let Ok(snapshot) = store.snapshot_at(version) else {
+        return None;
+    };
+    let rows = snapshot.rows(b"T")?;
+    let last = rows.last()?;
+    Some((rows.len(), last.0))
+}
+
+// What a commit made, if it wasn't refused.
+fn done(version: u64, rows: u64) -> Option<Committed> {
+    Some(Committed { version, rows })
 }
 
 #[test]
-fn tables_grow(rt: HostRuntime) -> Result<(), Fail> {
+fn commits_make_versions_and_ids_go_on(rt: HostRuntime) -> Result<(), Fail> {
     let alloc = rt.alloc();
     let mut store = made(alloc)?;
-    assert_eq!(rt; sizes(&store), (1, Some(0)));
-    for _ in 0..2 {
-        let inserted = store.insert(alloc, name(alloc, b"T")?, ones(alloc, 2, 1)?);
-        assert!(rt; inserted.is_ok());
+    let mut commit = Commit::new(alloc);
+    delete(alloc, &mut commit)?;
+    insert(alloc, &mut commit, 3)?;
+    assert_eq!(rt; store.commit(alloc, commit).ok(), done(2, 5));
+    assert_eq!(rt; rows_at(&store, 0), None);
+    assert_eq!(rt; rows_at(&store, 1), Some((2, 2)));
+    assert_eq!(rt; rows_at(&store, 2), Some((3, 5)));
+    Ok(())
+}
+
+#[test]
+fn a_refused_commit_comes_back_whole(rt: HostRuntime) -> Result<(), Fail> {
+    let alloc = rt.alloc();
+    let mut store = made(alloc)?;
+    let mut commit = inserts(alloc, 1)?;
+    create(alloc, &mut commit)?;
+    match store.commit(alloc, commit) {
+        Err((fault, back)) => {
+            assert_eq!(rt; fault.change, 2);
+            assert!(rt; matches!(fault.kind, CommitKind::Table(_)));
+            assert_eq!(rt; back.len(), 2);
+        },
+        Ok(_) => assert!(rt; false),
     }
-    assert_eq!(rt; sizes(&store), (3, Some(4)));
-    let last = store
-        .rows(b"T")
-        .and_then(|rows| rows.last())
-        .map(|row| row.0);
-    assert_eq!(rt; last, Some(4));
-    assert_eq!(rt; store.schemas().len(), 1);
-    assert!(rt; store.rows(b"t").is_none());
+    assert_eq!(rt; store.version(), 1);
+    assert_eq!(rt; rows_at(&store, 1), Some((2, 2)));
     Ok(())
 }
 
 #[test]
-fn tables_are_refused(rt: HostRuntime) -> Result<(), Fail> {
+fn an_update_keeps_ids_and_counts_equal_rows(rt: HostRuntime) -> Result<(), Fail> {
     let alloc = rt.alloc();
     let mut store = made(alloc)?;
-    let again = store.create(alloc, name(alloc, b"T")?, column(alloc, 2)?);
-    assert!(rt;
-        matches!(
-            again,
-            Err(CommitFault {
-                change: 1,
-                kind: CommitKind::Table(TableFault::TableExists(_))
-            })
-        )
-    );
-    let scaled = store.create(alloc, name(alloc, b"T")?, column(alloc, 7)?);
-    assert!(rt;
-        matches!(
-            scaled,
-            Err(CommitFault {
-                change: 1,
-                kind: CommitKind::Table(TableFault::BadScale(_))
-            })
-        )
-    );
-    for place in 1..MAX_TABLES {
-        let made = store.create(alloc, name(alloc, &[place as u8])?, column(alloc, 2)?);
-        assert!(rt; made.is_ok());
-    }
-    let more = store.create(alloc, name(alloc, b"U")?, column(alloc, 2)?);
-    assert!(rt;
-        matches!(
-            more,
-            Err(CommitFault {
-                change: 1,
-                kind: CommitKind::Table(TableFault::LimitTables(65))
-            })
-        )
-    );
-    assert_eq!(rt; store.schemas().len(), MAX_TABLES);
+    let mut commit = Commit::new(alloc);
+    update(alloc, &mut commit)?;
+    assert_eq!(rt; store.commit(alloc, commit).ok(), done(2, 2));
+    assert_eq!(rt; rows_at(&store, 2), Some((2, 2)));
     Ok(())
 }
 
 #[test]
-fn rows_are_refused(rt: HostRuntime) -> Result<(), Fail> {
+fn vacuum_gives_up_what_is_before(rt: HostRuntime) -> Result<(), Fail> {
     let alloc = rt.alloc();
     let mut store = made(alloc)?;
-    let away = store.insert(alloc, name(alloc, b"t")?, ones(alloc, 1, 1)?);
+    assert_eq!(rt; store.commit(alloc, inserts(alloc, 1)?).ok(), done(2, 1));
+    assert_eq!(rt; store.commit(alloc, vacuum(alloc, 2)?).ok(), done(3, 0));
+    assert_eq!(rt; store.low(), 2);
+    assert_eq!(rt; rows_at(&store, 2), Some((3, 3)));
     assert!(rt;
         matches!(
-            away,
-            Err(CommitFault {
-                change: 1,
-                kind: CommitKind::Binding(Refusal::NoTable(_))
+            store.snapshot_at(1),
+            Err(VaultFault::Unkept {
+                asked: 1,
+                low: 2,
+                high: 3
             })
         )
     );
-    let mut rows = ones(alloc, 1, 1)?;
-    rows.append(ones(alloc, 1, 2)?)?;
-    let wide = store.insert(alloc, name(alloc, b"T")?, rows);
-    assert!(rt;
-        matches!(
-            wide,
-            Err(CommitFault {
-                change: 1,
-                kind: CommitKind::Row(RowKind::Arity {
-                    have: 2,
-                    row: 2,
-                    want: 1
-                }),
-            })
-        )
-    );
-    assert_eq!(rt; sizes(&store), (1, Some(0)));
+    assert!(rt; matches!(store.snapshot_at(4), Err(VaultFault::Unkept { .. })));
+    assert!(rt; store.commit(alloc, vacuum(alloc, 1)?).is_err());
+    assert!(rt; store.commit(alloc, vacuum(alloc, 4)?).is_err());
     Ok(())
 }
 
 #[test]
-fn entries_are_limited(rt: HostRuntime) -> Result<(), Fail> {
+fn others_commit_between_calls(rt: HostRuntime) -> Result<(), Fail> {
     let alloc = rt.alloc();
-    let mut store = made(alloc)?;
-    let many = store.insert(alloc, name(alloc, b"T")?, ones(alloc, 200_001, 1)?);
-    assert!(rt;
-        matches!(
-            many,
-            Err(CommitFault {
-                change: 0,
-                kind: CommitKind::LimitRows(200_001)
-            })
-        )
-    );
-    assert_eq!(rt; sizes(&store), (1, Some(0)));
-    let most = store.insert(alloc, name(alloc, b"T")?, ones(alloc, 200_000, 1)?);
-    assert!(rt; most.is_ok());
-    assert_eq!(rt; sizes(&store), (2, Some(200_000)));
+    let mut visits = Vec::new(alloc);
+    visits.push(Some(making(alloc)?))?;
+    visits.push(None)?;
+    visits.push(Some(inserts(alloc, 1)?))?;
+    let mut vault = MemVault::new(alloc, 1, visits)?;
+    assert_eq!(rt; vault.snapshot()?.version, 1);
+    assert_eq!(rt; vault.own(), 0);
+    assert_eq!(rt; vault.commit(alloc, inserts(alloc, 3)?).ok(), done(2, 3));
+    assert_eq!(rt; vault.own(), 1);
+    assert!(rt; vault.commit(alloc, making(alloc)?).is_err());
+    assert_eq!(rt; vault.own(), 1);
+    assert_eq!(rt; rows_at(vault.store(), 3), Some((6, 6)));
     Ok(())
 }
