@@ -1,5 +1,5 @@
 -- When the node in hand is handled, and what that comes to.
-use Rattle.std.proofs.Common.{◌≡◌, ℕ, zero, suc, Bool, true, if◌then◌else◌, ◌+◌, ◌≤◌, List, [], ◌∷◌, ◌++◌, map, remove, sym, ap, subst, ◌∙◌, arith, inl, inr, IsPermutation, Contains, Some}
+use Rattle.std.proofs.Common.{◌≡◌, ℕ, zero, suc, Bool, true, false, if◌then◌else◌, ◌+◌, ◌≤◌, List, [], ◌∷◌, ◌++◌, map, remove, refl, sym, ap, subst, ◌∙◌, arith, inl, inr, IsPermutation, Contains, Some}
 use Rattle.std.specs.Prelude.{◌==◌, slice_get, slice_index_or, ℤ, Option, None, ◌⊎◌}
 use Rattle.std.proofs.lemmas.Cmp.{nat_eq_equiv}
 use Rattle.std.proofs.lemmas.List.{length-map, get_or-map}
@@ -21,7 +21,7 @@ use Rattle.cert_tree.proofs.Paths.{Divides, divides_plainly, left_paths}
 use Rattle.search_core.specs.Search.{value_in}
 use Rattle.search_core.specs.Nodes.{IsClosed, IsSplit, IsBetter}
 use Rattle.search_core.specs.Core.{CoreState, Holds, IsBusy, IsHeldAt, IsClosable, HasMore, IsReady, IsRecorded}
-use Rattle.search_core.specs.Moves.{IsBoxOf, IsClosing, IsSplitting, IsLowOf}
+use Rattle.search_core.specs.Moves.{IsBoxOf, ClosesAtOnce, without_place, children_in_turn, IsClosing, IsSplitting, IsLowOf}
 use Rattle.search_core.specs.Kept.{path_held, one_of, nodes_of, IsKept}
 use Rattle.search_core.specs.declared.event.Hand.{Hand}
 use Rattle.search_core.specs.declared.event.Seen.TheVariants.{Looked}
@@ -69,8 +69,13 @@ not_able p box seen proposal region better (inl (inl closes)) = closed_not_bette
 not_able p box seen proposal region better (inl (inr plainly)) = closed_not_better p box (plain p plainly.0) seen region plainly.2 better
 not_able p box seen proposal region better (inr more) = omega (arith, more.2, better.one more.0 more.1)
 
-opened : (old new : List (List Branch)) (hand : Hand) (var at : ℕ) (mult : Mult) → new ≡ old ++ (hand.path ++ upper var at ∷ []) ∷ ((hand.path ++ lower var at ∷ []) ∷ []) → IsPermutation new (children_of hand.path (Split var at mult) ++ old)
-opened old new hand var at mult is =
+opened : (old new : List (List Branch)) (hand : Hand) (var at : ℕ) (mult : Mult) (is_upper_next : Bool) → new ≡ old ++ children_in_turn is_upper_next hand.path var at → IsPermutation new (children_of hand.path (Split var at mult) ++ old)
+opened old new hand var at mult true is =
+    let low = hand.path ++ lower var at ∷ [] in
+    let high = hand.path ++ upper var at ∷ [] in
+    subst (λ (paths : List (List Branch)). IsPermutation paths (low ∷ (high ∷ old))) (sym is)
+    (IsPermutation-append_comm old (low ∷ (high ∷ [])))
+opened old new hand var at mult false is =
     let low = hand.path ++ lower var at ∷ [] in
     let high = hand.path ++ upper var at ∷ [] in
     subst (λ (paths : List (List Branch)). IsPermutation paths (low ∷ (high ∷ old))) (sym is)
@@ -160,9 +165,38 @@ closed p before after worker place proposal hand seen box chosen there of looked
       },
     )
 
+-- a node that was not looked at is not closed at once
+pub unlooked_open : (p : ProblemData) (state : CoreState) (worker place : ℕ) (mult : Mult) (hand : Hand) → IsKept p state → slice_get state.hands place ≡ Some hand → hand.worker ≡ worker → ((value : Option ℤ) → hand.seen ≡ Looked value → ⊥) → ¬ ClosesAtOnce p state worker mult
+unlooked_open p state worker place mult hand kept there of unlooked once =
+    unlooked once.seen (ap (λ (h : Hand). h.seen) (only_one state.hands worker place hand once.hand (kept.one_each worker) there of once.held) ∙ once.looked)
+
+-- nor is one that the multipliers don't close
+pub still_open : (p : ProblemData) (state : CoreState) (worker place : ℕ) (mult : Mult) (hand : Hand) (seen : Option ℤ) (box : Region) → IsKept p state → slice_get state.hands place ≡ Some hand → hand.worker ≡ worker → hand.seen ≡ Looked seen → box ≡ box_at p hand.path → ¬ Closes p box mult seen → ¬ ClosesAtOnce p state worker mult
+still_open p state worker place mult hand seen box kept there of looked box_is unclosed once =
+    let same : hand ≡ once.hand = only_one state.hands worker place hand once.hand (kept.one_each worker) there of once.held in
+    let values : seen ≡ once.seen = looked_same seen once.seen (sym looked ∙ (ap (λ (h : Hand). h.seen) same ∙ once.looked)) in
+    let boxes : box_at p once.hand.path ≡ box = ap (λ (h : Hand). box_at p h.path) (sym same) ∙ sym box_is in
+    unclosed (subst (λ (v : Option ℤ). Closes p box mult v) (sym values) (subst (λ (b : Region). Closes p b mult once.seen) boxes once.closes))
+
+-- one that they close is
+pub closed_once : (p : ProblemData) (before after : CoreState) (worker place : ℕ) (mult : Mult) (hand : Hand) (seen : Option ℤ) (box : Region) → slice_get before.hands place ≡ Some hand → hand.worker ≡ worker → hand.seen ≡ Looked seen → box ≡ box_at p hand.path → IsMult p mult → Closes p box mult seen → IsClosing before place mult after → ClosesAtOnce p before worker mult × IsRecorded p before worker (without_place mult) after
+closed_once p before after worker place mult hand seen box there of looked box_is legal closes closing = (
+  record {
+    hand = hand;
+    seen = seen;
+    held = (found_at before.hands place hand there, of);
+    looked = looked;
+    closes = subst (λ (b : Region). Closes p b mult seen) box_is closes;
+  },
+  (closed p before after worker place (without_place mult) hand seen box mult there of looked box_is legal (inl (refl, closes)) closing).1,
+)
+
+pub ready_once : (p : ProblemData) (state : CoreState) (worker : ℕ) (mult : Mult) → ClosesAtOnce p state worker mult → IsReady p state worker (without_place mult)
+ready_once p state worker mult once = record { hand = once.hand; seen = once.seen; held = once.held; looked = once.looked; able = inl (inl once.closes) }
+
 -- a node that is split
-pub split : (p : ProblemData) (before after : CoreState) (worker place var at : ℕ) (proposal : Proposal) (hand : Hand) (seen : Option ℤ) (box : Region) (chosen : Mult) → slice_get before.hands place ≡ Some hand → hand.worker ≡ worker → hand.seen ≡ Looked seen → box ≡ box_at p hand.path → IsMult p proposal.mult → IsSplit p box seen proposal chosen var at → IsSplitting before place var at chosen after → IsReady p before worker proposal × IsRecorded p before worker proposal after
-split p before after worker place var at proposal hand seen box chosen there of looked box_is legal splits splitting =
+pub split : (p : ProblemData) (before after : CoreState) (worker place var at : ℕ) (proposal : Proposal) (hand : Hand) (seen : Option ℤ) (box : Region) (chosen : Mult) (is_upper_next : Bool) → slice_get before.hands place ≡ Some hand → hand.worker ≡ worker → hand.seen ≡ Looked seen → box ≡ box_at p hand.path → IsMult p proposal.mult → IsSplit p box seen proposal chosen var at → IsSplitting before place var at chosen is_upper_next after → IsReady p before worker proposal × IsRecorded p before worker proposal after
+split p before after worker place var at proposal hand seen box chosen is_upper_next there of looked box_is legal splits splitting =
     let same : splitting.hand ≡ hand = some_same splitting.hand hand (sym splitting.moves.there ∙ there) in
     let holds : Holds before.hands worker hand = (found_at before.hands place hand there, of) in
     let here : IsSplit p (box_at p hand.path) seen proposal chosen var at = subst (λ (b : Region). IsSplit p b seen proposal chosen var at) box_is splits in (
@@ -181,7 +215,7 @@ split p before after worker place var at proposal hand seen box chosen there of 
           plainly = here.plainly;
           splits = place_splits (box_at p hand.path) proposal var at here.place;
           records = splitting.moves.records ∙ (ap (λ (h : Hand). before.records ++ record { path = h.path; act = Split var at chosen } ∷ []) same ∙ ap (λ (m : Mult). before.records ++ record { path = hand.path; act = Split var at m } ∷ []) here.chosen_is);
-          left = opened before.left after.left hand var at proposal.mult (splitting.left ∙ ap (λ (h : Hand). before.left ++ (h.path ++ upper var at ∷ []) ∷ ((h.path ++ lower var at ∷ []) ∷ [])) same);
+          left = opened before.left after.left hand var at proposal.mult is_upper_next (splitting.left ∙ ap (λ (h : Hand). before.left ++ children_in_turn is_upper_next h.path var at) same);
         });
         budget = splitting.moves.budget;
         best = splitting.moves.best;

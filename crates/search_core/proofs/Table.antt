@@ -1,6 +1,6 @@
 -- What the lists of a search come to, in the words of the table of events.
-use Rattle.std.proofs.Common.{◌≡◌, ℕ, suc, ◌+◌, ◌<◌, ◌≤◌, List, [], ◌∷◌, ◌++◌, length, take, drop, remove, refl, sym, ap, subst, ◌∙◌, arith, below_more, IsPermutation, Contains, Some}
-use Rattle.std.specs.Prelude.{slice_get, slice_index_or, slice_set, ℤ, Option}
+use Rattle.std.proofs.Common.{◌≡◌, ℕ, Bool, true, false, suc, ◌+◌, ◌<◌, ◌≤◌, List, [], ◌∷◌, ◌++◌, length, take, drop, remove, refl, sym, ap, subst, ◌∙◌, arith, below_more, IsPermutation, Contains, Some}
+use Rattle.std.specs.Prelude.{slice_get, slice_index_or, slice_set, ℤ, Option, MatchBool}
 use Rattle.std.proofs.lemmas.List.{set_split, set-get_or, append_assoc}
 use Rattle.std.proofs.lemmas.List.Sorted.{IsPermutation-remove, IsPermutation-middle, IsPermutation-to_front}
 use Rattle.std.proofs.lemmas.Option.{slice_get_within, get_or_from_slice_get, slice_get-get_or, slice_get_read}
@@ -9,7 +9,7 @@ use Rattle.lin_bound.specs.Box.{lower, upper}
 use Rattle.search_core.specs.declared.event.Hand.{Hand}
 use Rattle.search_core.specs.declared.event.Seen.TheVariants.{NotLooked, Looked}
 use Rattle.search_core.specs.Search.{value_in}
-use Rattle.search_core.specs.Moves.{IsLastTaken}
+use Rattle.search_core.specs.Moves.{IsLastTaken, children_in_turn}
 use Rattle.search_core.specs.Core.{CoreState, Holds, IsBusy, IsHeldAt, in_hand, Replaced, IsTaken, IsLooked, IsDropped}
 
 -- what is at a place is among them, and the others are what is left without it
@@ -96,13 +96,25 @@ looked before after worker place found value held is value_is hands budget left 
       },
     )
 
+-- two paths are opened
+two_open : (old reserved one two : List (List Branch)) (first last : List Branch) → reserved ≡ old → one ≡ reserved ++ first ∷ [] → two ≡ one ++ last ∷ [] → two ≡ old ++ first ∷ (last ∷ [])
+two_open old reserved one two first last kept one_is two_is =
+    two_is ∙ (ap (λ (paths : List (List Branch)). paths ++ last ∷ []) (one_is ∙ ap (λ (paths : List (List Branch)). paths ++ first ∷ []) kept) ∙ append_assoc old (first ∷ []) (last ∷ []))
+
+-- and are the children of a node
+children_open : (old two : List (List Branch)) (path below above first last : List Branch) (is_upper_next : Bool) (var at : ℕ) → below ≡ path ++ lower var at ∷ [] → above ≡ path ++ upper var at ∷ [] → MatchBool is_upper_next ((first ≡ below) × (last ≡ above)) ((first ≡ above) × (last ≡ below)) → two ≡ old ++ first ∷ (last ∷ []) → two ≡ old ++ children_in_turn is_upper_next path var at
+children_open old two path below above first last true var at low high turn is =
+    is ∙ (ap (λ (one : List Branch). old ++ one ∷ (last ∷ [])) (turn.0 ∙ low) ∙ ap (λ (one : List Branch). old ++ (path ++ lower var at ∷ []) ∷ (one ∷ [])) (turn.1 ∙ high))
+children_open old two path below above first last false var at low high turn is =
+    is ∙ (ap (λ (one : List Branch). old ++ one ∷ (last ∷ [])) (turn.0 ∙ high) ∙ ap (λ (one : List Branch). old ++ (path ++ upper var at ∷ []) ∷ (one ∷ [])) (turn.1 ∙ low))
+
 -- both children of a node are open
-pub both_open : (old reserved one two : List (List Branch)) (hands : List Hand) (place : ℕ) (got seen : Hand) (below above : List Branch) (var at : ℕ) → place < length hands → got ≡ slice_index_or hands place got → seen ≡ slice_index_or hands place seen → below ≡ seen.path ++ lower var at ∷ [] → above ≡ seen.path ++ upper var at ∷ [] → reserved ≡ old → one ≡ reserved ++ above ∷ [] → two ≡ one ++ below ∷ [] → two ≡ old ++ (got.path ++ upper var at ∷ []) ∷ ((got.path ++ lower var at ∷ []) ∷ [])
-both_open old reserved one two hands place got seen below above var at within got_is seen_is below_is above_is kept first second =
+pub both_open : (old reserved one two : List (List Branch)) (hands : List Hand) (place : ℕ) (got seen : Hand) (below above first last : List Branch) (is_upper_next : Bool) (var at : ℕ) → place < length hands → got ≡ slice_index_or hands place got → seen ≡ slice_index_or hands place seen → below ≡ seen.path ++ lower var at ∷ [] → above ≡ seen.path ++ upper var at ∷ [] → MatchBool is_upper_next ((first ≡ below) × (last ≡ above)) ((first ≡ above) × (last ≡ below)) → reserved ≡ old → one ≡ reserved ++ first ∷ [] → two ≡ one ++ last ∷ [] → two ≡ old ++ children_in_turn is_upper_next got.path var at
+both_open old reserved one two hands place got seen below above first last is_upper_next var at within got_is seen_is below_is above_is turn kept one_is two_is =
     let same : seen ≡ got = seen_is ∙ get_or_from_slice_get hands place got seen (slice_get_read hands (length hands) place got refl within got_is) in
     let low : below ≡ got.path ++ lower var at ∷ [] = below_is ∙ ap (λ (h : Hand). h.path ++ lower var at ∷ []) same in
     let high : above ≡ got.path ++ upper var at ∷ [] = above_is ∙ ap (λ (h : Hand). h.path ++ upper var at ∷ []) same in
-    second ∙ (ap (λ (paths : List (List Branch)). paths ++ below ∷ []) (first ∙ ap (λ (paths : List (List Branch)). paths ++ above ∷ []) kept) ∙ (append_assoc old (above ∷ []) (below ∷ []) ∙ (ap (λ (path : List Branch). old ++ path ∷ (below ∷ [])) high ∙ ap (λ (path : List Branch). old ++ (got.path ++ upper var at ∷ []) ∷ (path ∷ [])) low)))
+    children_open old two got.path below above first last is_upper_next var at low high turn (two_open old reserved one two first last kept one_is two_is)
 
 -- the path that was opened last moves to a hand
 pub taken_last : (before after : CoreState) (worker : ℕ) (path : List Branch) → before.left ≡ after.left ++ path ∷ [] → after.hands ≡ before.hands ++ in_hand worker path NotLooked ∷ [] → after.budget ≡ before.budget → after.best ≡ before.best → after.records ≡ before.records → IsLastTaken before worker after

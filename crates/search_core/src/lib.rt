@@ -3,11 +3,14 @@
 
 mod boxes;
 mod event;
+mod exclusion;
+mod guide;
 mod laws;
 mod machine;
 mod multipliers;
 mod node;
 mod open_path;
+mod plan;
 mod solved;
 mod solver;
 mod state;

@@ -9,6 +9,7 @@ ghost use Rattle.search_core.specs.Runs.{start};
 use crate::event::{Event, Stepped};
 use crate::node::Work;
 use crate::open_path::OpenPath;
+use crate::plan::Plan;
 use crate::state::State;
 use lin_bound::{Path, Problem, Region, box_of};
 use std::alloc::{AllocError, Global};
@@ -96,8 +97,12 @@ fn perform(
         Event::Take { worker, path } => state.take(worker, path),
         Event::Look { worker } => Ok(state.look(worker)),
         Event::Handle { worker, proposal } => {
+            let plan = Plan {
+                proposal,
+                is_upper_next: false,
+            };
             state.show_box(problem, worker, region);
-            state.handle(alloc, problem, worker, &proposal, region, work)
+            state.handle(alloc, problem, worker, &plan, region, work)
         }
         Event::Offer { worker: _, point } => Ok(state.offer(problem, point)),
         Event::Drop { worker } => state.give_back(worker),

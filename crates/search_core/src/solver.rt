@@ -16,12 +16,15 @@ ghost use Rattle.search_core.specs.Solo.{IsAlone, IsBegun, IsAllOffered, IsInfor
 ghost use Rattle.search_core.specs.Solver.{IsSolved, IsEndOf, IsSearched};
 
 use crate::event::Stepped;
+use crate::exclusion::{Exclusion, find_exclusion, gap_of};
+use crate::guide::Guide;
 use crate::node::Work;
 use crate::open_path::{opened, paths_of};
+use crate::plan::Plan;
 use crate::solved::{Solved, best_value};
-use crate::state::State;
+use crate::state::{State, is_count_above};
 use cert_tree::{Record, assemble, most_left};
-use lin_bound::{Mult, Path, Point, Problem, Region, box_of, plain_mult};
+use lin_bound::{Mult, Path, Point, Problem, Region, bound, box_of};
 use round_proposer::round_points;
 use simplex_proposer::{Proposal, propose};
 use std::alloc::{AllocError, Global};
@@ -76,7 +79,7 @@ pub fn go_on(
 {
     let mut region = box_of(alloc, problem, &Path::new(alloc))?;
     let mut work = Work::new(alloc, problem)?;
-    let mut hint = plain_mult(alloc, problem, 0)?;
+    let mut guide = Guide::new(alloc, problem)?;
     let left = opened(alloc, left)?;
     let mut state = State::new(alloc, budget, records, left, best);
     while state.has_next() {
@@ -85,65 +88,66 @@ pub fn go_on(
             problem,
             &mut state,
             &mut region,
-            &mut hint,
+            &mut guide,
             &mut work,
         )?;
     }
     finish(alloc, problem, state)
 }
 
-/// Takes an open path and does its node. The hint is multipliers of a node before it.
+/// Takes an open path and does its node. Multipliers of a node before often close the box at once.
 fn do_next(
     alloc: Global,
     problem: &Problem,
     state: &mut State,
     region: &mut Region,
-    hint: &mut Mult,
+    guide: &mut Guide,
     work: &mut Work,
 ) -> Result<(), AllocError>
     requires kept { IsKept problem.now state.old }
     requires region { IsRegion problem.now region.old }
-    requires hint { IsMult problem.now hint.old }
+    requires guide { IsMult problem.now guide.old.mult }
     requires work { IsWork problem.now work.old }
     requires idle { state.old.hands ≡ [] }
     requires room { begun state.old < state.old.budget }
     requires some { state.old.left ≢ [] }
     ensures advanced { IfOk result (λ _. IsAdvanced problem.now state.old state.new) }
     ensures region { IsRegion problem.now region.new }
-    ensures hint { IsMult problem.now hint.new }
+    ensures guide { IsMult problem.now guide.new.mult }
     ensures work { IsWork problem.now work.new }
 {
     begin(state)?;
     state.show_box(problem, 0, region);
-    settle(alloc, problem, state, region, hint, work)
+    match state.close_at_once(alloc, problem, 0, &guide.mult, region)? {
+        Stepped::Done => Ok(()),
+        Stepped::NotEnabled => settle(alloc, problem, state, region, guide, work),
+    }
 }
 
-/// Closes or splits the box in hand by a new proposal, and offers points near it before.
+/// Closes or splits the box in hand by a plan for it.
 fn settle(
     alloc: Global,
     problem: &Problem,
     state: &mut State,
     region: &mut Region,
-    hint: &mut Mult,
+    guide: &mut Guide,
     work: &mut Work,
 ) -> Result<(), AllocError>
     requires kept { IsKept problem.now state.old }
     requires region { IsRegion problem.now region.old }
-    requires hint { IsMult problem.now hint.old }
+    requires guide { IsMult problem.now guide.old.mult }
     requires work { IsWork problem.now work.old }
     requires alone { IsAlone state.old }
     requires shown { IsBoxOf problem.now state.old 0 region.old }
     ensures advanced { IfOk result (λ _. IsAdvanced problem.now state.old state.new) }
     ensures region { IsRegion problem.now region.new }
-    ensures hint { IsMult problem.now hint.new }
+    ensures guide { IsMult problem.now guide.new.mult }
     ensures work { IsWork problem.now work.new }
 {
-    let proposal = propose(alloc, problem, region, hint)?;
-    remember(problem, &proposal.mult, hint);
-    offer_near(alloc, problem, region, &proposal.mult, state)?;
-    match state.handle(alloc, problem, 0, &proposal, region, work)? {
+    let plan = next_plan(alloc, problem, region, guide, state)?;
+    match state.handle(alloc, problem, 0, &plan, region, work)? {
         Stepped::Done => Ok(()),
-        Stepped::NotEnabled => offer_and_close(alloc, problem, &proposal, state, region, work),
+        Stepped::NotEnabled => offer_and_close(alloc, problem, &plan, state, region, work),
     }
 }
 
@@ -159,40 +163,137 @@ fn begin(state: &mut State) -> Result<(), AllocError>
     Ok(())
 }
 
-/// Makes the multipliers the hint for the next node, unless they weigh the cost alone or rows alone.
-fn remember(problem: &Problem, mult: &Mult, hint: &mut Mult)
-    requires mult { IsMult problem.now mult.now }
-    requires hint { IsMult problem.now hint.old }
-    ensures { IsMult problem.now hint.new }
+/// The plan to split at an exclusion: the half that is closed comes next.
+fn excluding(mult: Mult, exclusion: Exclusion) -> Plan
+    ensures { result.proposal.mult ≡ mult }
 {
-    if mult.d == 0 {
-        return;
+    Plan {
+        proposal: Proposal {
+            mult,
+            var: exclusion.var,
+            at: exclusion.at,
+        },
+        is_upper_next: exclusion.is_upper_closed,
     }
-    for row in 0..problem.row_count() {
-        if mult.lambda.as_slice()[row] > 0 {
-            hint.copy_from(mult);
-            return;
+}
+
+/// A plan for the box in hand: to exclude one more part of it by the multipliers of the node before, if that did the
+/// same, or what is newly proposed. Then points near that are offered before.
+fn next_plan(
+    alloc: Global,
+    problem: &Problem,
+    region: &Region,
+    guide: &mut Guide,
+    state: &mut State,
+) -> Result<Plan, AllocError>
+    requires region { IsRegion problem.now region.now }
+    requires guide { IsMult problem.now guide.old.mult }
+    requires alone { IsAlone state.old }
+    ensures plan { IfOk result (λ plan. IsMult problem.now plan.proposal.mult) }
+    ensures informed { IfOk result (λ _. IsInformed problem.now state.old state.new) }
+    ensures guide { IsMult problem.now guide.new.mult }
+{
+    let depth = state.depth(0);
+    if guide.leads_at(depth) {
+        let most = bound(problem, region, &guide.mult);
+        let gap = gap_of(&guide.mult, most, state.best_value());
+        if let Some(excluded) = find_exclusion(problem, region, &guide.mult, gap, depth) {
+            guide.chain = Some(depth.saturating_add(1));
+            return Ok(excluding(guide.mult.copy(alloc)?, excluded));
         }
+    }
+    new_plan(alloc, problem, region, guide, state)
+}
+
+/// A plan by a new proposal: to exclude a part of the box by its multipliers, or else what it says. Points near it are
+/// offered before.
+fn new_plan(
+    alloc: Global,
+    problem: &Problem,
+    region: &Region,
+    guide: &mut Guide,
+    state: &mut State,
+) -> Result<Plan, AllocError>
+    requires region { IsRegion problem.now region.now }
+    requires guide { IsMult problem.now guide.old.mult }
+    requires alone { IsAlone state.old }
+    ensures plan { IfOk result (λ plan. IsMult problem.now plan.proposal.mult) }
+    ensures informed { IfOk result (λ _. IsInformed problem.now state.old state.new) }
+    ensures guide { IsMult problem.now guide.new.mult }
+{
+    let proposal = propose(alloc, problem, region, &guide.mult)?;
+    guide.remember(problem, &proposal.mult);
+    let most = bound(problem, region, &proposal.mult);
+    let is_upper_next = offer_some(alloc, problem, region, &proposal, most, guide, state)?;
+    let gap = gap_of(&proposal.mult, most, state.best_value());
+    let depth = state.depth(0);
+    if let Some(excluded) = find_exclusion(problem, region, &proposal.mult, gap, depth) {
+        guide.chain = Some(depth.saturating_add(1));
+        return Ok(excluding(proposal.mult, excluded));
+    }
+    Ok(Plan {
+        proposal,
+        is_upper_next,
+    })
+}
+
+/// Offers points near a proposal with this bound, unless it closes the box or nothing was found so for long. Answers
+/// whether the first of them, or without any the best point so far, is in the upper half.
+fn offer_some(
+    alloc: Global,
+    problem: &Problem,
+    region: &Region,
+    proposal: &Proposal,
+    most: i128,
+    guide: &mut Guide,
+    state: &mut State,
+) -> Result<bool, AllocError>
+    requires region { IsRegion problem.now region.now }
+    requires proposal { IsMult problem.now proposal.now.mult }
+    requires alone { IsAlone state.old }
+    ensures informed { IfOk result (λ _. IsInformed problem.now state.old state.new) }
+    ensures guide { guide.new.mult ≡ guide.old.mult }
+{
+    let before = state.best_value();
+    if let Some(gap) = gap_of(&proposal.mult, most, before) {
+        if gap < 0 || !guide.wants_points() {
+            return Ok(state.is_best_above(proposal.var, proposal.at));
+        }
+    }
+    let is_upper_next = offer_near(alloc, problem, region, proposal, state)?;
+    if state.best_value() != before {
+        guide.fruitless = 0;
+    }
+    Ok(is_upper_next)
+}
+
+/// Whether the first point is in the upper half at the place proposed, or there is none.
+fn is_in_upper(points: &[Point], proposal: &Proposal) -> bool {
+    match points.first() {
+        Some(point) => is_count_above(point, proposal.var, proposal.at),
+        None => true,
     }
 }
 
 /// Offers points of the box in hand near the one that the multipliers prefer, and looks at the best value again.
+/// Answers whether the first of them is in the upper half at the place proposed.
 fn offer_near(
     alloc: Global,
     problem: &Problem,
     region: &Region,
-    mult: &Mult,
+    proposal: &Proposal,
     state: &mut State,
-) -> Result<(), AllocError>
+) -> Result<bool, AllocError>
     requires region { IsRegion problem.now region.now }
-    requires mult { IsMult problem.now mult.now }
+    requires proposal { IsMult problem.now proposal.now.mult }
     requires alone { IsAlone state.old }
     ensures { IfOk result (λ _. IsInformed problem.now state.old state.new) }
 {
-    let points = round_points(alloc, problem, region, mult)?;
+    let points = round_points(alloc, problem, region, &proposal.mult)?;
+    let is_upper_next = is_in_upper(&points, proposal);
     offer_each(problem, points, state);
     state.look(0);
-    Ok(())
+    Ok(is_upper_next)
 }
 
 /// Offers each of the points.
@@ -208,17 +309,17 @@ fn offer_each(problem: &Problem, points: Vec<Point>, state: &mut State)
 fn offer_and_close(
     alloc: Global,
     problem: &Problem,
-    proposal: &Proposal,
+    plan: &Plan,
     state: &mut State,
     region: &mut Region,
     work: &mut Work,
 ) -> Result<(), AllocError>
     requires kept { IsKept problem.now state.old }
-    requires proposal { IsMult problem.now proposal.now.mult }
+    requires plan { IsMult problem.now plan.now.proposal.mult }
     requires region { IsRegion problem.now region.old }
     requires work { IsWork problem.now work.old }
     requires alone { IsAlone state.old }
-    requires stuck { ¬ IsReady problem.now state.old 0 proposal.now }
+    requires stuck { ¬ IsReady problem.now state.old 0 plan.now.proposal }
     requires point { IsLowOf problem.now state.old 0 work.old.point }
     ensures advanced { IfOk result (λ _. IsAdvanced problem.now state.old state.new) }
     ensures region { IsRegion problem.now region.new }
@@ -229,7 +330,7 @@ fn offer_and_close(
     state.offer(problem, point);
     state.look(0);
     state.show_box(problem, 0, region);
-    state.handle(alloc, problem, 0, proposal, region, work)?;
+    state.handle(alloc, problem, 0, plan, region, work)?;
     Ok(())
 }
 

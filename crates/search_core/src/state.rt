@@ -11,15 +11,17 @@ ghost use Rattle.search_core.specs.Core.{IsTaken, IsLooked, IsOffered, IsRecorde
 ghost use Rattle.search_core.specs.Kept.{IsKept};
 ghost use Rattle.search_core.specs.Runs.{going_on};
 ghost use Rattle.search_core.specs.Moves.{IsLastTaken, IsClosing, IsSplitting, IsLowOf, IsBoxOf};
+ghost use Rattle.search_core.specs.Moves.{ClosesAtOnce, without_place};
+ghost use Rattle.search_core.specs.Search.{value_in};
 
 use crate::boxes::move_to;
 use crate::event::{Hand, Seen, Stepped};
 use crate::node::{Handled, Work, handle_node};
 use crate::open_path::OpenPath;
+use crate::plan::Plan;
 use crate::solved::best_value;
 use cert_tree::{Act, Record};
-use lin_bound::{Mult, Path, Point, Problem, Region};
-use simplex_proposer::Proposal;
+use lin_bound::{Mult, Path, Point, Problem, Region, closes};
 use std::alloc::{AllocError, Global};
 use std::marker::Model;
 
@@ -85,6 +87,24 @@ fn is_above(value: i64, best: Option<i64>) -> bool
     }
 }
 
+/// Whether the point has more than so many of a variable.
+pub fn is_count_above(point: &Point, variable: u32, at: u64) -> bool {
+    let count = point.counts().get(variable as usize).copied();
+    count.unwrap_or(0) > at
+}
+
+/// The halves of a box, in the order in which they are opened: the last one is taken next.
+fn in_turn(lower: Path, upper: Path, is_upper_next: bool) -> (Path, Path)
+    ensures { MatchBool is_upper_next ((result.0 ≡ lower) × (result.1 ≡ upper))
+        ((result.0 ≡ upper) × (result.1 ≡ lower)) }
+{
+    if is_upper_next {
+        (lower, upper)
+    } else {
+        (upper, lower)
+    }
+}
+
 impl State {
     /// A search with these records and open paths, and no node in hand.
     pub fn new(
@@ -119,6 +139,29 @@ impl State {
             (self.now.left ≢ [] → self.now.budget ≤ begun self.now) }
     {
         !self.left.is_empty() && !self.is_spent()
+    }
+
+    /// The cost of the best point so far.
+    pub fn best_value(&self) -> Option<i64>
+        ensures { result ≡ value_in self.now.best }
+    {
+        best_value(&self.best)
+    }
+
+    /// Whether the best point so far has more than so many of a variable, or there is no point.
+    pub fn is_best_above(&self, variable: u32, at: u64) -> bool {
+        match &self.best {
+            Some((_, point)) => is_count_above(point, variable, at),
+            None => true,
+        }
+    }
+
+    /// How long the path of a worker's node is, and 0 if it has none.
+    pub fn depth(&self, worker: u32) -> usize {
+        match place_of_hand(&self.hands, worker) {
+            Some(place) => self.hands[place].path.path().len(),
+            None => 0,
+        }
     }
 
     /// What was recorded, the open paths, and the best point offered.
@@ -225,7 +268,7 @@ impl State {
         Ok(())
     }
 
-    /// Records that the box of the node in hand at a place is split; both children are open, the lower one the last.
+    /// Records that the box of the node in hand at a place is split; both children are open.
     fn split(
         &mut self,
         alloc: Global,
@@ -233,19 +276,22 @@ impl State {
         var: u32,
         at: u64,
         mult: &Mult,
+        is_upper_next: bool,
     ) -> Result<(), AllocError>
         requires { place < length self.old.hands }
-        ensures ok { IfOk result (λ _. IsSplitting self.old place var at mult.now self.new) }
+        ensures ok { IfOk result (λ _.
+            IsSplitting self.old place var at mult.now is_upper_next self.new) }
         ensures err { OnErr result (self.new ≡ self.old) }
     {
         let (lower, upper) = self.hands[place].path.path().halves(alloc, var, at)?;
+        let (first, last) = in_turn(lower, upper, is_upper_next);
         let mult = mult.copy(alloc)?;
         self.left.reserve(2)?;
         self.records.reserve(1)?;
         let path = self.hands.remove(place).path.into_path();
         let parent = Some(self.records.len());
-        self.left.push_reserved(OpenPath::new(upper, parent));
-        self.left.push_reserved(OpenPath::new(lower, parent));
+        self.left.push_reserved(OpenPath::new(first, parent));
+        self.left.push_reserved(OpenPath::new(last, parent));
         let act = Act::Split { var, at, mult };
         self.records.push_reserved(Record { path, act });
         Ok(())
@@ -265,24 +311,57 @@ impl State {
         move_to(problem, hand.path.path(), region);
     }
 
+    /// A worker closes the box of its node, if these multipliers do so.
+    pub fn close_at_once(
+        &mut self,
+        alloc: Global,
+        problem: &Problem,
+        worker: u32,
+        mult: &Mult,
+        region: &Region,
+    ) -> Result<Stepped, AllocError>
+        requires kept { IsKept problem.now self.old }
+        requires mult { IsMult problem.now mult.now }
+        requires region { IsRegion problem.now region.now }
+        requires shown { IsBoxOf problem.now self.old worker region.now }
+        ensures ok { IfOk result (λ outcome. Outcome
+            (ClosesAtOnce problem.now self.old worker mult.now)
+            (IsRecorded problem.now self.old worker (without_place mult.now) self.new)
+            (self.new ≡ self.old) outcome) }
+        ensures err { OnErr result (self.new ≡ self.old) }
+    {
+        let Some(place) = place_of_hand(&self.hands, worker) else {
+            return Ok(Stepped::NotEnabled);
+        };
+        let hand = &self.hands[place];
+        let Seen::Looked(seen) = hand.seen else {
+            return Ok(Stepped::NotEnabled);
+        };
+        if !closes(problem, region, mult, seen) {
+            return Ok(Stepped::NotEnabled);
+        }
+        self.close(alloc, place, mult)?;
+        Ok(Stepped::Done)
+    }
+
     /// A worker closes or splits the box of its node. If its one point is a better one, that is in the work.
     pub fn handle(
         &mut self,
         alloc: Global,
         problem: &Problem,
         worker: u32,
-        proposal: &Proposal,
+        plan: &Plan,
         region: &Region,
         work: &mut Work,
     ) -> Result<Stepped, AllocError>
         requires kept { IsKept problem.now self.old }
-        requires proposal { IsMult problem.now proposal.now.mult }
+        requires plan { IsMult problem.now plan.now.proposal.mult }
         requires region { IsRegion problem.now region.now }
         requires shown { IsBoxOf problem.now self.old worker region.now }
         requires work { IsWork problem.now work.old }
         ensures ok { IfOk result (λ outcome. Outcome
-            (IsReady problem.now self.old worker proposal.now)
-            (IsRecorded problem.now self.old worker proposal.now self.new)
+            (IsReady problem.now self.old worker plan.now.proposal)
+            (IsRecorded problem.now self.old worker plan.now.proposal self.new)
             (self.new ≡ self.old) outcome) }
         ensures point { IfOk result (λ outcome. outcome ≡ NotEnabled →
             IsLowOf problem.now self.old worker work.new.point) }
@@ -296,10 +375,12 @@ impl State {
         let Seen::Looked(seen) = hand.seen else {
             return Ok(Stepped::NotEnabled);
         };
-        match handle_node(problem, region, seen, proposal, work) {
+        match handle_node(problem, region, seen, &plan.proposal, work) {
             Handled::Better => return Ok(Stepped::NotEnabled),
             Handled::Closed => self.close(alloc, place, &work.mult)?,
-            Handled::Split { var, at } => self.split(alloc, place, var, at, &work.mult)?,
+            Handled::Split { var, at } => {
+                self.split(alloc, place, var, at, &work.mult, plan.is_upper_next)?;
+            }
         }
         Ok(Stepped::Done)
     }

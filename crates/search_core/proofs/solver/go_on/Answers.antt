@@ -13,7 +13,7 @@ loop-state-init c = (
   may_begin c.args.problem.now c.args.budget c.args.records.items c.args.left.items c.args.best c.new-state.result (rw c.in_ok-left.ensures at c.new-state.ensures) c.requires.few c.requires.balanced c.requires.found c.requires.right c.requires.legal,
   c.in_ok-work.ensures,
   c.in_ok-region.ensures.region,
-  c.in_ok-hint.ensures.mult,
+  c.in_ok-guide.ensures,
 )
 
 pub loop-state-preserved : goal.loop-state-preserved
@@ -21,7 +21,7 @@ loop-state-preserved c = (
   goes_further c.args.problem.now c.args.budget c.new-state.result c.loop-state.state c.do_next.new.state c.loop-state.invariant.0 c.in_ok-do_next.ensures.advanced,
   c.in_ok-do_next.ensures.work,
   c.in_ok-do_next.ensures.region,
-  c.in_ok-do_next.ensures.hint,
+  c.in_ok-do_next.ensures.guide,
 )
 
 pub returns-clause-searched : goal.returns-clause-searched

@@ -6,7 +6,7 @@ use Rattle.search_core.proofs.Ending.{IsGoing}
 use Rattle.search_core.proofs.solver.go_on.Given as goal
 
 abbrev pub invariant-loop-state : goal.invariant-loop-state
-invariant-loop-state l = IsGoing l.problem l.budget l.initial.state l.state × IsWork l.problem l.work × IsRegion l.problem l.region × IsMult l.problem l.hint
+invariant-loop-state l = IsGoing l.problem l.budget l.initial.state l.state × IsWork l.problem l.work × IsRegion l.problem l.region × IsMult l.problem l.guide.mult
 
 abbrev pub decreases-loop-state : goal.decreases-loop-state
 decreases-loop-state l = l.budget - length l.state.records

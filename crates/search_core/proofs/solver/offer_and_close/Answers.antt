@@ -11,5 +11,5 @@ handle-requires-clause-kept c =
 
 pub returns-clause-advanced : goal.returns-clause-advanced
 returns-clause-advanced c =
-    closes_better c.args.problem.now c.args.state.now c.offer.new.self c.look.new.self c.handle.new.self c.args.proposal.now c.in_ok-point.point c.offer.result c.look.result c.in_ok-handle.field-0
+    closes_better c.args.problem.now c.args.state.now c.offer.new.self c.look.new.self c.handle.new.self c.args.plan.now.proposal c.in_ok-point.point c.offer.result c.look.result c.in_ok-handle.field-0
     c.variables-legal.ensures.legal c.requires.kept c.requires.alone c.requires.stuck (rw c.in_ok-point.ensures c.requires.point) c.offer.ensures c.look.ensures c.in_ok-handle.ensures.ok

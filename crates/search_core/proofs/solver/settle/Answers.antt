@@ -8,24 +8,24 @@ use Rattle.search_core.proofs.Going.{at_informed, handles_node, goes_on, keeps_n
 use Rattle.search_core.proofs.solver.settle.Goals as goal
 
 pub handle-requires-clause-kept : goal.handle-requires-clause-kept
-handle-requires-clause-kept c = keeps_node c.args.problem.now c.args.state.now c.offer_near.new.state c.requires.kept (at_informed c.args.problem.now c.args.state.now c.offer_near.new.state c.in_ok-offer_near.ensures)
+handle-requires-clause-kept c = keeps_node c.args.problem.now c.args.state.now c.next_plan.new.state c.requires.kept (at_informed c.args.problem.now c.args.state.now c.next_plan.new.state c.in_ok-plan.ensures.informed)
 
 pub handle-requires-clause-shown : goal.handle-requires-clause-shown
-handle-requires-clause-shown c = c.in_ok-offer_near.ensures.same c.args.region.now c.requires.shown
+handle-requires-clause-shown c = c.in_ok-plan.ensures.informed.same c.args.region.now c.requires.shown
 
 pub offer_and_close-requires-clause-kept : goal.offer_and_close-requires-clause-kept
 offer_and_close-requires-clause-kept c =
     let same = (rw c.in-NotEnabled.is at c.in_ok-handle.ensures.ok).1 in
-    subst (IsKept c.args.problem.now) (sym same) (keeps_node c.args.problem.now c.args.state.now c.offer_near.new.state c.requires.kept (at_informed c.args.problem.now c.args.state.now c.offer_near.new.state c.in_ok-offer_near.ensures))
+    subst (IsKept c.args.problem.now) (sym same) (keeps_node c.args.problem.now c.args.state.now c.next_plan.new.state c.requires.kept (at_informed c.args.problem.now c.args.state.now c.next_plan.new.state c.in_ok-plan.ensures.informed))
 
 pub offer_and_close-requires-clause-alone : goal.offer_and_close-requires-clause-alone
 offer_and_close-requires-clause-alone c =
     let same = (rw c.in-NotEnabled.is at c.in_ok-handle.ensures.ok).1 in
-    subst IsAlone (sym same) c.in_ok-offer_near.ensures.alone
+    subst IsAlone (sym same) c.in_ok-plan.ensures.informed.alone
 
 pub returns-in-Done-clause-advanced : goal.returns-in-Done-clause-advanced
 returns-in-Done-clause-advanced c =
-    handles_node c.args.problem.now c.args.state.now c.offer_near.new.state c.handle.new.self c.in_ok-proposal.proposal (at_informed c.args.problem.now c.args.state.now c.offer_near.new.state c.in_ok-offer_near.ensures) (rw c.in-Done.is at c.in_ok-handle.ensures.ok)
+    handles_node c.args.problem.now c.args.state.now c.next_plan.new.state c.handle.new.self c.in_ok-plan.plan.proposal (at_informed c.args.problem.now c.args.state.now c.next_plan.new.state c.in_ok-plan.ensures.informed) (rw c.in-Done.is at c.in_ok-handle.ensures.ok)
 
 pub returns-clause-advanced : goal.returns-clause-advanced
 returns-clause-advanced c =
@@ -33,7 +33,7 @@ returns-clause-advanced c =
     IfOk-weaker c.offer_and_close.result
     (λ (_x : Unit {0}). IsAdvanced c.args.problem.now c.handle.new.self c.offer_and_close.new.state)
     (λ (_x : Unit {0}). IsAdvanced c.args.problem.now c.args.state.now c.offer_and_close.new.state)
-    (λ done advanced. goes_on c.args.problem.now c.args.state.now c.offer_near.new.state c.offer_and_close.new.state (at_informed c.args.problem.now c.args.state.now c.offer_near.new.state c.in_ok-offer_near.ensures) (subst (λ (s : CoreState). IsAdvanced c.args.problem.now s c.offer_and_close.new.state) same advanced))
+    (λ done advanced. goes_on c.args.problem.now c.args.state.now c.next_plan.new.state c.offer_and_close.new.state (at_informed c.args.problem.now c.args.state.now c.next_plan.new.state c.in_ok-plan.ensures.informed) (subst (λ (s : CoreState). IsAdvanced c.args.problem.now s c.offer_and_close.new.state) same advanced))
     c.offer_and_close.ensures.advanced
 
 pub offer_and_close-requires-clause-point : goal.offer_and_close-requires-clause-point

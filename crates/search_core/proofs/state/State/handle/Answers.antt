@@ -7,7 +7,7 @@ pub returns-in_default-seen-clause-ok : goal.returns-in_default-seen-clause-ok
 returns-in_default-seen-clause-ok c =
     let here = at_hand c.self.inside.hands.items c.args.worker c.in-Some.place c.index-hand.result.now (rw c.deref.ensures.value at c.in-Some.ensures) c.index-hand.ensures in (
       rw (sym c.self.view_is)
-          (unlooked c.args.problem.now _ c.args.worker c.in-Some.place c.args.proposal.now c.index-hand.result.now (rw (sym c.self.view_is) at c.requires.kept) here.0 here.1 c.in_default-seen.not-Looked),
+          (unlooked c.args.problem.now _ c.args.worker c.in-Some.place c.args.plan.now.proposal c.index-hand.result.now (rw (sym c.self.view_is) at c.requires.kept) here.0 here.1 c.in_default-seen.not-Looked),
       refl,
     )
 
@@ -15,7 +15,7 @@ pub returns-in-Better-clause-ok : goal.returns-in-Better-clause-ok
 returns-in-Better-clause-ok c =
     let here = at_hand c.self.inside.hands.items c.args.worker c.in-Some.place c.index-hand.result.now (rw c.deref.ensures.value at c.in-Some.ensures) c.index-hand.ensures in (
       rw (sym c.self.view_is)
-          (stuck c.args.problem.now _ c.args.worker c.in-Some.place c.args.proposal.now c.index-hand.result.now c.in-Looked.seen c.args.region.now (rw (sym c.self.view_is) at c.requires.kept) here.0 here.1 c.in-Looked.is (hand_box c.args.problem.now c.self.inside.hands.items c.args.worker c.in-Some.place c.index-hand.result.now c.args.region.now here.0 here.1 (rw (sym c.self.view_is) at c.requires.shown)) c.requires.region c.in-Better.ensures.handled),
+          (stuck c.args.problem.now _ c.args.worker c.in-Some.place c.args.plan.now.proposal c.index-hand.result.now c.in-Looked.seen c.args.region.now (rw (sym c.self.view_is) at c.requires.kept) here.0 here.1 c.in-Looked.is (hand_box c.args.problem.now c.self.inside.hands.items c.args.worker c.in-Some.place c.index-hand.result.now c.args.region.now here.0 here.1 (rw (sym c.self.view_is) at c.requires.shown)) c.requires.region c.in-Better.ensures.handled),
       refl,
     )
 
@@ -33,13 +33,13 @@ pub returns-in_ok-close-in-Closed-clause-ok : goal.returns-in_ok-close-in-Closed
 returns-in_ok-close-in-Closed-clause-ok c =
     let here = at_hand c.self.inside.hands.items c.args.worker c.in-Some.place c.index-hand.result.now (rw c.deref.ensures.value at c.in-Some.ensures) c.index-hand.ensures in
     rw (sym c.self.view_is)
-    (closed c.args.problem.now _ c.close.new.self c.args.worker c.in-Some.place c.args.proposal.now c.index-hand.result.now c.in-Looked.seen c.args.region.now _ here.0 here.1 c.in-Looked.is (hand_box c.args.problem.now c.self.inside.hands.items c.args.worker c.in-Some.place c.index-hand.result.now c.args.region.now here.0 here.1 (rw (sym c.self.view_is) at c.requires.shown)) c.in-Closed.ensures.work.mult c.in-Closed.ensures.handled (rw (sym c.self.view_is) at c.in_ok-close-in-Closed.ensures.ok))
+    (closed c.args.problem.now _ c.close.new.self c.args.worker c.in-Some.place c.args.plan.now.proposal c.index-hand.result.now c.in-Looked.seen c.args.region.now _ here.0 here.1 c.in-Looked.is (hand_box c.args.problem.now c.self.inside.hands.items c.args.worker c.in-Some.place c.index-hand.result.now c.args.region.now here.0 here.1 (rw (sym c.self.view_is) at c.requires.shown)) c.in-Closed.ensures.work.mult c.in-Closed.ensures.handled (rw (sym c.self.view_is) at c.in_ok-close-in-Closed.ensures.ok))
 
 pub returns-in_ok-split-in-Split-clause-ok : goal.returns-in_ok-split-in-Split-clause-ok
 returns-in_ok-split-in-Split-clause-ok c =
     let here = at_hand c.self.inside.hands.items c.args.worker c.in-Some.place c.index-hand.result.now (rw c.deref.ensures.value at c.in-Some.ensures) c.index-hand.ensures in
     rw (sym c.self.view_is)
-    (split c.args.problem.now _ c.split.new.self c.args.worker c.in-Some.place c.in-Split.var c.in-Split.at c.args.proposal.now c.index-hand.result.now c.in-Looked.seen c.args.region.now _ here.0 here.1 c.in-Looked.is (hand_box c.args.problem.now c.self.inside.hands.items c.args.worker c.in-Some.place c.index-hand.result.now c.args.region.now here.0 here.1 (rw (sym c.self.view_is) at c.requires.shown)) c.requires.proposal c.in-Split.ensures.handled (rw (sym c.self.view_is) at c.in_ok-split-in-Split.ensures.ok))
+    (split c.args.problem.now _ c.split.new.self c.args.worker c.in-Some.place c.in-Split.var c.in-Split.at c.args.plan.now.proposal c.index-hand.result.now c.in-Looked.seen c.args.region.now _ c.args.plan.now.is_upper_next here.0 here.1 c.in-Looked.is (hand_box c.args.problem.now c.self.inside.hands.items c.args.worker c.in-Some.place c.index-hand.result.now c.args.region.now here.0 here.1 (rw (sym c.self.view_is) at c.requires.shown)) c.requires.plan c.in-Split.ensures.handled (rw (sym c.self.view_is) at c.in_ok-split-in-Split.ensures.ok))
 
 pub returns-in_default-seen-clause-point : goal.returns-in_default-seen-clause-point
 returns-in_default-seen-clause-point c =

@@ -11,8 +11,9 @@ pub returns-clause-ok : goal.returns-clause-ok
 returns-clause-ok c =
     let within = rw (sym c.self.view_is) at c.requires in
     let old = c.self.inside.records.items in
-    let above = c.new.ensures ∙ rw c.path.ensures at c.in_ok-lower.ensures.upper in
-    let below = c.new-2.ensures ∙ rw c.path.ensures at c.in_ok-lower.ensures.lower in
+    let above = rw c.path.ensures at c.in_ok-lower.ensures.upper in
+    let below = rw c.path.ensures at c.in_ok-lower.ensures.lower in
+    let turn = rw (sym c.new.ensures, sym c.new-2.ensures) at c.in_turn-first.ensures in
     rw (sym c.self.view_is) (record {
       hand = c.remove.result;
       moves = record {
@@ -25,5 +26,5 @@ returns-clause-ok c =
         budget = refl;
         best = refl;
       };
-      left = both_open c.self.inside.left.items _ _ _ c.self.inside.hands.items c.args.place c.remove.result c.index.result.now _ _ c.args.var c.args.at within c.remove.ensures.value c.index.ensures below above c.in_ok-reserve.ensures.items c.push_reserved.ensures.items c.push_reserved-2.ensures.items;
+      left = both_open c.self.inside.left.items _ _ _ c.self.inside.hands.items c.args.place c.remove.result c.index.result.now _ _ _ _ c.args.is_upper_next c.args.var c.args.at within c.remove.ensures.value c.index.ensures below above turn c.in_ok-reserve.ensures.items c.push_reserved.ensures.items c.push_reserved-2.ensures.items;
     })
