@@ -22,6 +22,11 @@ use Rattle.cert_text.specs.declared.kinds.Kind.TheVariants.{UndecidedMinus, Unde
 use Rattle.cert_text.specs.declared.kinds.Kind.TheVariants.{Pair, Close, Split, Open, End}
 use Rattle.cert_text.specs.Lines.{Row, row, text_of}
 
+-- the certificate of these parts
+abbrev pub cert_with : ℕ → ℕ → Claim → List (ℕ × ℕ) → List TreeNode → CertText
+cert_with vars rows claim pairs nodes =
+    record { vars = vars; rows = rows; claim = claim; pairs = pairs; nodes = nodes }
+
 -- a value is at most 2^60 in size
 abbrev pub IsClaim : Claim → Type 0
 IsClaim (OptimalClaim value) = unsigned_abs value ≤ 2 ^ 60

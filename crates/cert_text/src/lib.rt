@@ -12,7 +12,4 @@ mod writing;
 pub use laws::{texts_are_apart, wholes_are_read};
 pub use reading::{read_cert, read_part};
 pub use value::{CertFault, CertText, Claim, Part};
-pub use writing::{write_cert, write_part};
-
-#[cfg(test)]
-mod tests;
+pub use writing::{write_cert, write_lines, write_part};

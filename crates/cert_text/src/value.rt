@@ -1,4 +1,6 @@
 //! What a certificate text says, and why a text is none.
+ghost use Rattle.std.specs.Prelude.{◌≡◌};
+
 use cert_tree::TreeNode;
 use sqlite_items::Items;
 use std::alloc::AllocError;
@@ -13,6 +15,21 @@ pub enum Claim {
     Infeasible,
     /// It is at least this, if there is a value.
     Undecided(Option<i64>),
+}
+
+impl Claim {
+    ghost use Rattle.cert_text.specs.Claims.{claimed};
+
+    /// The value that is claimed, if one is.
+    pub fn value(self) -> Option<i64>
+        ensures { result ≡ claimed self }
+    {
+        match self {
+            Claim::Optimal(value) => Some(value),
+            Claim::Infeasible => None,
+            Claim::Undecided(value) => value,
+        }
+    }
 }
 
 /// A certificate: how many variables and rows the problem has, the claim, the pairs of ids and counts of a package,

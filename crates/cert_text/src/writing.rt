@@ -3,7 +3,7 @@ ghost use Rattle.std.specs.Prelude.{◌≡◌, ◌++◌, ◌∷◌, [], ◌<◌,
 ghost use Rattle.std.specs.Fmt.{decimal};
 ghost use Rattle.cert_text.specs.Numbers.{blanked, listed};
 ghost use Rattle.cert_text.specs.Lines.{row};
-ghost use Rattle.cert_text.specs.Certs.{IsCert, rows_of, cert_text, claim_row, value_row, package_rows, pair_row, node_row};
+ghost use Rattle.cert_text.specs.Certs.{IsCert, cert_with, rows_of, cert_text, claim_row, value_row, package_rows, pair_row, node_row};
 ghost use Rattle.cert_text.specs.Rules.{Puts};
 
 use crate::kinds::Kind;
@@ -168,19 +168,37 @@ fn put_package(out: &mut Vec<u8>, claim: Claim, pairs: &[(u64, u64)]) -> Result<
     }
 }
 
+/// Appends the lines of a certificate that has these parts, which need not fit one. If there is no memory, a part of
+/// them may be there.
+pub fn write_lines(
+    out: &mut Vec<u8>,
+    vars: u32,
+    rows: u32,
+    claim: Claim,
+    pairs: &[(u64, u64)],
+    nodes: &[TreeNode],
+) -> Result<(), AllocError>
+    ensures { IfOk result (λ _. out.new.items
+        ≡ out.old.items ++ cert_text (cert_with vars rows claim pairs.now nodes.now)) }
+{
+    put_line(out, Kind::Header, &[])?;
+    put_line(out, Kind::Vars, &[u64::from(vars)])?;
+    put_line(out, Kind::Rows, &[u64::from(rows)])?;
+    put_claim(out, claim)?;
+    put_package(out, claim, pairs)?;
+    put_nodes(out, nodes)?;
+    put_line(out, Kind::End, &[])?;
+    Ok(())
+}
+
 /// Appends the text of a certificate. If there is no memory, a part of it may be there.
 pub fn write_part(out: &mut Vec<u8>, cert: &CertText) -> Result<(), AllocError>
     requires { IsCert cert.now }
     ensures { IfOk result (λ _. out.new.items ≡ out.old.items ++ cert_text cert.now) }
 {
-    put_line(out, Kind::Header, &[])?;
-    put_line(out, Kind::Vars, &[u64::from(cert.vars)])?;
-    put_line(out, Kind::Rows, &[u64::from(cert.rows)])?;
-    put_claim(out, cert.claim)?;
-    put_package(out, cert.claim, cert.pairs.as_slice())?;
-    put_nodes(out, cert.nodes.as_slice())?;
-    put_line(out, Kind::End, &[])?;
-    Ok(())
+    let pairs = cert.pairs.as_slice();
+    let nodes = cert.nodes.as_slice();
+    write_lines(out, cert.vars, cert.rows, cert.claim, pairs, nodes)
 }
 
 /// The text of a certificate.

@@ -1,6 +1,10 @@
 -- What the solver's answer to a query's program says of the query.
-use Rattle.std.proofs.Common.{◌≡◌, ◌↔◌, ℕ, ◌<◌, ◌≤◌, List, length, ℤ, ◌≤ℤ◌, Option, None, Some, sym, ap, ◌∙◌, subst, arith}
+use Rattle.std.proofs.Common.{◌≡◌, ℕ, List, [], ℤ, ◌≤ℤ◌, Option, None, Some, Ok, Err, refl, sym, ap, ◌∙◌, subst, arith}
 use Rattle.std.proofs.lemmas.Int.{ints}
+use Rattle.std.specs.Prelude.{IfOk, Result}
+use Rattle.std.specs.declared.alloc.AllocError.{AllocError}
+use Rattle.cert_text.specs.declared.value.Claim.{Claim}
+use Rattle.cert_text.specs.declared.value.Claim.TheVariants.{Optimal, Infeasible, Undecided}
 use Rattle.cert_tree.proofs.Bounds.{partial_bounds}
 use Rattle.cert_tree.proofs.Soundness.{certified_is_best, certified_is_empty}
 use Rattle.cert_tree.specs.Certificates.{IsCertificate}
@@ -19,10 +23,12 @@ use Rattle.package_program.proofs.Counts.{row_bound_is}
 use Rattle.package_program.proofs.Translated.{translated}
 use Rattle.session_proto.specs.Answers as answers
 use Rattle.session_proto.specs.Replies.{ReplyData}
-use Rattle.search_core.specs.Search.{Found, IsFound}
+use Rattle.search_core.specs.Search.{Found, IsFound, value_in}
 use Rattle.search_core.specs.Solver.{IsProven, IsUndecided}
-use Rattle.query_answer.specs.Answers.{Rows, HasProgram, AnswersQuery, IsUndecidedAnswer, optimal, infeasible, undecided, program_of, worth_of, shown, shown_pair}
-use Rattle.query_answer.specs.Searched.{IsCounted, shows}
+use Rattle.query_answer.specs.Answers.{Rows, Answers, HasProgram, AnswersQuery, IsUndecidedAnswer, KeepsClaim, optimal, infeasible, undecided, program_of, worth_of, shown, shown_pair}
+use Rattle.query_answer.specs.Searched.{IsCounted, IsTold, pairs_in, shows}
+use Rattle.query_answer.specs.declared.answering.Answered.{Answered}
+use Rattle.query_answer.specs.declared.answering.Answered.TheVariants.{Reply, Refused}
 use Rattle.query_answer.specs.declared.kept.Kept.{Kept}
 
 -- the program means the query
@@ -91,15 +97,15 @@ none_left query rows value bound nodes means legal partly is = none_above query 
 -- the reply with a best package
 pub optimal_answer : (query : BoundQuery) (rows : Rows) (x : List ℕ) (most : ℤ) (version : ℕ) (reply : ReplyData) (kept : Kept) → Means query rows → IsLegal (program_of query rows)
     → IsFeasible (program_of query rows) x → cost_at (program_of query rows) x ≡ most → IsProven query.budget (program_of query rows) kept.tree (Some most)
-    → kept.problem ≡ program_of query rows → reply ≡ answers.optimal (shown query.goal most) (pairs_of query rows x) version → AnswersQuery query rows version reply kept
-optimal_answer query rows x most version reply kept means legal is comes proven problem told =
+    → KeepsClaim query rows (Optimal most) (pairs_of query rows x) kept → reply ≡ answers.optimal (shown query.goal most) (pairs_of query rows x) version → AnswersQuery query rows version reply kept
+optimal_answer query rows x most version reply kept means legal is comes proven keeps told =
     let pairs = pairs_of query rows x in
     let value : most ≡ worth_of query rows pairs = sym comes ∙ point_worth query rows x means is in
     optimal (record {
       pairs = pairs;
       best = best_package query rows x most kept.tree means legal is comes proven.certificate;
       proof = record {
-        problem = problem;
+        keeps = subst (λ (z : ℤ). KeepsClaim query rows (Optimal z) pairs kept) value keeps;
         certificate = subst (λ (z : ℤ). IsCertificate (program_of query rows) kept.tree (Some z)) value proven.certificate;
         few = proven.few;
         legal = proven.mults;
@@ -109,10 +115,10 @@ optimal_answer query rows x most version reply kept means legal is comes proven 
 
 -- the reply if no package meets the query
 pub infeasible_answer : (query : BoundQuery) (rows : Rows) (version : ℕ) (reply : ReplyData) (kept : Kept) → Means query rows → IsLegal (program_of query rows)
-    → IsProven query.budget (program_of query rows) kept.tree None → kept.problem ≡ program_of query rows → reply ≡ answers.infeasible version → AnswersQuery query rows version reply kept
-infeasible_answer query rows version reply kept means legal proven problem told = infeasible (record {
+    → IsProven query.budget (program_of query rows) kept.tree None → KeepsClaim query rows Infeasible [] kept → reply ≡ answers.infeasible version → AnswersQuery query rows version reply kept
+infeasible_answer query rows version reply kept means legal proven keeps told = infeasible (record {
   empty = none_meets query rows kept.tree means legal proven.certificate;
-  proof = record { problem = problem; certificate = proven.certificate; few = proven.few; legal = proven.mults };
+  proof = record { keeps = keeps; certificate = proven.certificate; few = proven.few; legal = proven.mults };
   shown = told;
 })
 
@@ -122,27 +128,27 @@ ids query rows = ids_of (candidates (asks query) rows)
 
 -- the reply of a search that its budget cut off
 undecided_is : (query : BoundQuery) (rows : Rows) (best : Option Found) (bound : ℤ) (version : ℕ) (reply : ReplyData) (kept : Kept) → Means query rows → IsLegal (program_of query rows)
-    → IsUndecided query.budget (program_of query rows) best bound kept.tree → kept.problem ≡ program_of query rows
+    → IsUndecided query.budget (program_of query rows) best bound kept.tree → KeepsClaim query rows (Undecided (value_in best)) (pairs_in (ids query rows) best) kept
     → reply ≡ shows query (ids query rows) bound best version → IsUndecidedAnswer query rows version reply kept
-undecided_is query rows None bound version reply kept means legal is problem told = record {
+undecided_is query rows None bound version reply kept means legal is keeps told = record {
   found = None;
   bound = bound;
   meets = tt;
-  problem = problem;
+  keeps = keeps;
   partly = is.partly;
   legal = is.mults;
   bound_is = is.bound_is;
   none_above = none_left query rows None bound kept.tree means legal is.partly is.bound_is;
   shown = told;
 }
-undecided_is query rows (Some found) bound version reply kept means legal is problem told =
+undecided_is query rows (Some found) bound version reply kept means legal is keeps told =
     let pairs = pairs_of query rows found.1 in
     let value : found.0 ≡ worth_of query rows pairs = sym is.found.1 ∙ point_worth query rows found.1 means is.found.0 in
     record {
       found = Some pairs;
       bound = bound;
       meets = point_meets query rows found.1 means is.found.0;
-      problem = problem;
+      keeps = subst (λ (z : ℤ). KeepsClaim query rows (Undecided (Some z)) pairs kept) value keeps;
       partly = subst (λ (z : ℤ). IsPartialCertificate query.budget (program_of query rows) kept.tree (Some z)) value is.partly;
       legal = is.mults;
       bound_is = is.bound_is ∙ ap (λ (z : ℤ). most_left (program_of query rows) kept.tree (Some z)) value;
@@ -151,12 +157,24 @@ undecided_is query rows (Some found) bound version reply kept means legal is pro
     }
 
 pub undecided_answer : (query : BoundQuery) (rows : Rows) (best : Option Found) (bound : ℤ) (version : ℕ) (reply : ReplyData) (kept : Kept) → Means query rows → IsLegal (program_of query rows)
-    → IsUndecided query.budget (program_of query rows) best bound kept.tree → kept.problem ≡ program_of query rows
+    → IsUndecided query.budget (program_of query rows) best bound kept.tree → KeepsClaim query rows (Undecided (value_in best)) (pairs_in (ids query rows) best) kept
     → reply ≡ shows query (ids query rows) bound best version → AnswersQuery query rows version reply kept
-undecided_answer query rows best bound version reply kept means legal is problem told =
-    undecided (undecided_is query rows best bound version reply kept means legal is problem told)
+undecided_answer query rows best bound version reply kept means legal is keeps told =
+    undecided (undecided_is query rows best bound version reply kept means legal is keeps told)
 
 -- the point that was found, if one was, is within the uppers
 pub found_counted : (p : ProblemData) (best : Option Found) → IsFound p best → IsCounted p best
 found_counted p None is = tt
 found_counted p (Some found) is = point_within p found.1 is.0
+
+-- what is told answers the query if the reply does, whatever else is kept beside these things
+pub told_answers : (query : BoundQuery) (rows : Rows) (version : ℕ) (result : Result Answered AllocError) (reply : ReplyData) (said : Claim) (pairs : List (ℕ × ℕ)) (tree : List TreeNode)
+    → HasProgram query rows → ((kept : Kept) → KeepsClaim query rows said pairs kept → kept.tree ≡ tree → AnswersQuery query rows version reply kept)
+    → IfOk result (λ answered. IsTold reply (program_of query rows) said pairs tree answered) → IfOk result (λ answered. Answers query rows version answered)
+told_answers query rows version (Ok (Reply other kept)) reply said pairs tree has each told = (
+  has,
+  subst (λ (r : ReplyData). AnswersQuery query rows version r kept) (sym told.0)
+      (each kept (record { problem = told.1; claim = told.2; pairs = told.3 }) told.4),
+)
+told_answers query rows version (Ok (Refused fault)) reply said pairs tree has each told = absurd told
+told_answers query rows version (Err error) reply said pairs tree has each told = tt

@@ -1,7 +1,10 @@
 -- What is answered to a query over the rows of its table, and what is kept of it.
-use Rattle.std.specs.Prelude.{◌≡◌, ℕ, ◌<◌, ◌≤◌, All, if◌then◌else◌, List, length, ℤ, ◌≤ℤ◌, neg_ℤ, Option, None, Some, IfSome}
+use Rattle.std.specs.Prelude.{◌≡◌, ℕ, ◌<◌, ◌≤◌, All, if◌then◌else◌, List, [], length, ℤ, ◌≤ℤ◌, neg_ℤ, Option, None, Some, IfSome, unwrap_or}
 use Rattle.std.specs.Fmt.{decimal}
 use Rattle.pq_base.specs.Decimal.{decimal_text}
+use Rattle.cert_text.specs.Claims.{claimed}
+use Rattle.cert_text.specs.declared.value.Claim.{Claim}
+use Rattle.cert_text.specs.declared.value.Claim.TheVariants as claims
 use Rattle.cert_tree.specs.Certificates.{IsCertificate}
 use Rattle.cert_tree.specs.Multipliers.{HasLegalMult}
 use Rattle.cert_tree.specs.Partial.{IsPartialCertificate, most_left}
@@ -52,12 +55,18 @@ shown_pair (Some goal) bound value = Some (
 
 -- ---- answers
 
--- what is kept is the query's program, with a certificate for the value, or for no value, within
--- the budget
-pub record IsKeptProof (query : BoundQuery) (rows : Rows) (value : Option ℤ)
+-- what is kept is the query's program, what is claimed of it, and the pairs of the package shown
+pub record KeepsClaim (query : BoundQuery) (rows : Rows) (said : Claim) (told : List (ℕ × ℕ))
     (kept : Kept) : Type 0 where
   pub problem : kept.problem ≡ program_of query rows
-  pub certificate : IsCertificate (program_of query rows) kept.tree value
+  pub claim : kept.claim ≡ said
+  pub pairs : kept.pairs ≡ told
+
+-- with a certificate for the value that is claimed, or for no value, within the budget
+pub record IsKeptProof (query : BoundQuery) (rows : Rows) (said : Claim) (told : List (ℕ × ℕ))
+    (kept : Kept) : Type 0 where
+  pub keeps : KeepsClaim query rows said told kept
+  pub certificate : IsCertificate (program_of query rows) kept.tree (claimed said)
   pub few : length kept.tree ≤ query.budget
   pub legal : All (HasLegalMult (program_of query rows)) kept.tree
 
@@ -66,13 +75,13 @@ pub record IsOptimal (query : BoundQuery) (rows : Rows) (version : ℕ) (reply :
     (kept : Kept) : Type 0 where
   pub pairs : List (ℕ × ℕ)
   pub best : Best (asks query) rows pairs
-  pub proof : IsKeptProof query rows (Some (worth_of query rows pairs)) kept
+  pub proof : IsKeptProof query rows (claims.Optimal (worth_of query rows pairs)) pairs kept
   pub shown : reply ≡ answers.optimal (shown query.goal (worth_of query rows pairs)) pairs version
 
 pub record IsInfeasible (query : BoundQuery) (rows : Rows) (version : ℕ) (reply : ReplyData)
     (kept : Kept) : Type 0 where
   pub empty : Empty (asks query) rows
-  pub proof : IsKeptProof query rows None kept
+  pub proof : IsKeptProof query rows claims.Infeasible [] kept
   pub shown : reply ≡ answers.infeasible version
 
 -- the worth of the package that was found, if one was
@@ -94,7 +103,8 @@ pub record IsUndecidedAnswer (query : BoundQuery) (rows : Rows) (version : ℕ)
   pub found : Option (List (ℕ × ℕ))
   pub bound : ℤ
   pub meets : IfSome found (λ (pairs : List (ℕ × ℕ)). Meets (asks query) rows pairs)
-  pub problem : kept.problem ≡ program_of query rows
+  pub keeps : KeepsClaim query rows (claims.Undecided (worth_in query rows found))
+      (unwrap_or found []) kept
   pub partly : IsPartialCertificate query.budget (program_of query rows) kept.tree
       (worth_in query rows found)
   pub legal : All (HasLegalMult (program_of query rows)) kept.tree

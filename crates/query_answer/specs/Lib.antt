@@ -1,2 +1,4 @@
 pub mod Answers
 pub mod Searched
+pub mod Kept
+pub mod Laws

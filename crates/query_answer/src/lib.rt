@@ -3,7 +3,9 @@
 
 mod answering;
 mod kept;
+mod laws;
 mod showing;
 
 pub use answering::{Answered, answer};
 pub use kept::Kept;
+pub use laws::answers_are_written;
