@@ -1,4 +1,3 @@
--- Private: the literals in `src/fields.rt`.
 -- What the fields of a record give as literals.
 use Rattle.std.specs.Prelude.{◌≡◌, ℕ, ◌+◌, ◌<◌, ◌≤◌, List, [], ◌∷◌, length, ℤ}
 use Rattle.std.specs.Prelude.{Option, Some, None, Result, Ok, Err}

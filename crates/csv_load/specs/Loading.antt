@@ -1,4 +1,3 @@
--- Private: `load` in `src/loading.rt`: rows from the body of a LOAD.
 -- What a body of CSV gives as rows of a table. Its records are those of the crate `csv` with its
 -- defaults, after one byte order mark.
 use Rattle.std.specs.Prelude.{◌≡◌, ℕ, ◌+◌, ◌<◌, ◌≤◌, List, [], ◌∷◌, length, map, Result, Ok, Err}

@@ -1,7 +1,9 @@
 -- What the top call does, by its words, and its statuses.
-use Rattle.std.specs.Prelude.{◌≡◌, ℕ, List, [], ◌∷◌, String, codes, string_bytes}
+use Rattle.std.specs.Prelude.{◌≡◌, ℕ, List, [], ◌∷◌, length, String, codes, string_bytes}
 use Rattle.std.specs.declared.alloc.Global.{Global}
 use Rattle.pq_base.specs.Shown.{Shown}
+use Rattle.version_store.specs.Histories.{History}
+use Rattle.version_store.specs.Vaults.{Holding}
 use Rattle.paql_engine.specs.declared.ending.SessionEnd.{SessionEnd}
 use Rattle.paql_engine.specs.declared.ending.SessionEnd.TheVariants as ends
 use Rattle.session_server.specs.Ends.{EndsWith, HasCause, IsWholeScript, IsDoneOrFault}
@@ -21,12 +23,18 @@ code_of ends.Memory = 5
 code_of ends.TooLong = 6
 code_of ends.SessionLimit = 7
 
--- The source and the sink were read and written by a session that ended so. A whole script is
--- answered to its end, if no fault comes and memory doesn't run out.
+-- a vault that nobody else commits to: all that it holds was committed through it
+abbrev pub all_own : History → Holding
+all_own history = record { held = history; own = length history; stake = 0 }
+
+-- The source and the sink were read and written by a session that ended so, from no commit on. All
+-- commits of its history are its own: they are those of the accepted statements. A whole script
+-- is answered to its end, if no fault comes and memory doesn't run out.
 pub record Runs (source source_now sink sink_now : Shown) (code : ℕ) : Type 0 where
+  pub history : History
   pub end : SessionEnd
   pub is : code ≡ code_of end
-  pub ends : EndsWith source source_now sink sink_now end
+  pub ends : EndsWith (all_own []) (all_own history) source source_now sink sink_now end
   pub cause : HasCause source source_now sink sink_now end
   pub complete : IsWholeScript source.bytes → IsDoneOrFault end
 

@@ -5,8 +5,10 @@ ghost use Rattle.paql.specs.Status.{IsRun, Does, code_of};
 
 use paql_engine::SessionEnd;
 use pq_base::{Gate, Sink, Source};
+use search_core::SoloSolver;
 use session_server::serve_session;
 use std::alloc::Global;
+use version_store::{SoloVault, VersionStore};
 
 /// How the program ends.
 #[derive(Clone, Copy, Debug, PartialEq, Eq)]
@@ -16,8 +18,8 @@ pub struct Status {
     pub code: u8,
 }
 
-/// Does all that the program does: for the one word `run` it answers the statements of the source. The runtime and
-/// the gate are for workers, of which there are none yet.
+/// Does all that the program does: for the one word `run` it answers the statements of the source, from no commit on.
+/// The runtime and the gate are for workers, of which there are none yet.
 pub fn paql_top<R, S: Source, K: Sink, G: Gate + Sync>(
     _rt: &R,
     alloc: Global,
@@ -35,9 +37,13 @@ pub fn paql_top<R, S: Source, K: Sink, G: Gate + Sync>(
     if !is_run(words) {
         return Status { code: 2 };
     }
-    Status {
-        code: code_of(serve_session(alloc, source, sink)),
-    }
+    let Ok(store) = VersionStore::new(alloc) else {
+        return Status { code: 5 };
+    };
+    let mut vault = SoloVault { store };
+    let mut solver = SoloSolver;
+    let end = serve_session(alloc, &mut vault, &mut solver, source, sink);
+    Status { code: code_of(end) }
 }
 
 // The words of a command line are the one word run.
@@ -66,6 +72,12 @@ fn code_of(end: SessionEnd) -> u8
 }
 
 #[cfg(test)]
+mod load_tests;
+#[cfg(test)]
 mod session_tests;
 #[cfg(test)]
 mod tests;
+#[cfg(test)]
+mod vault_tests;
+#[cfg(test)]
+mod version_tests;

@@ -1,5 +1,5 @@
 -- What each answer of the framer makes of a machine.
-use Rattle.std.proofs.Common.{◌≡◌, ℕ, zero, suc, ◌+◌, ◌*◌, ◌-◌, ◌<◌, ◌≤◌, min, Option, None, Some, List, [], ◌∷◌, ◌++◌, length, inl, refl, sym, ap, subst, ◌∙◌, append-nil, length-append, arith}
+use Rattle.std.proofs.Common.{◌≡◌, ℕ, ◌+◌, ◌-◌, ◌<◌, ◌≤◌, min, Option, None, Some, List, [], ◌∷◌, ◌++◌, length, inl, refl, ap, subst, ◌∙◌, append-nil, length-append, arith}
 use Rattle.std.specs.List.{flat_map}
 use Rattle.paql_ast.specs.declared.statements.Statement.{Statement}
 use Rattle.session_proto.specs.Frames.{Skips, closed}
@@ -9,33 +9,34 @@ use Rattle.session_proto.specs.Sessions.{Frame, Stands, AreFrames}
 use Rattle.session_proto.specs.declared.framer.Awaited.{Awaited}
 use Rattle.session_proto.proofs.SessionSteps.{needs_at_end, too_long_at_end}
 use Rattle.session_proto.proofs.CleanEnds.{clean_at_end}
-use Rattle.paql_engine.specs.Conversation.{Stage, Conversation, MachineData, WaitsFor, IsBetween, HasNoFrame, IsFramed, IsServing, framing, parsing, reading, ended, size, body_awaited, work, turns_left}
+use Rattle.version_store.specs.Vaults.{Holding}
+use Rattle.paql_engine.specs.State.{SessionState}
+use Rattle.paql_engine.specs.Conversation.{Conversation, MachineData, OwnMachine, over, talks, WaitsFor, IsBetween, HasNoFrame, IsFramed, IsServing, parsing, ended, size, body_awaited}
 use Rattle.paql_engine.specs.Ends.{EndsSo}
-use Rattle.paql_engine.specs.Machine.{room_of}
 use Rattle.paql_engine.specs.Texts.{IsLoad}
-use Rattle.paql_engine.specs.Turns.{IsHere, HasBody, IsLess, Needs, stops, reads, at_stage}
+use Rattle.paql_engine.specs.Turns.{IsHere, HasBody, Needs, stops, reads}
 use Rattle.paql_engine.specs.declared.ending.SessionEnd.TheVariants as ends
 use Rattle.paql_engine.specs.declared.ending.TheConstants.{MAX_BYTES, MAX_READ}
 use Rattle.paql_engine.specs.declared.machine.Wish.{Wish}
-use Rattle.paql_engine.proofs.Serving.{IsOpen, account_of, begun, ends_at}
+use Rattle.paql_engine.proofs.Serving.{IsOpen, account_of, begun, ends_at, with_talk, staged}
 use Rattle.paql_engine.proofs.TextOnce.{load_once}
 
--- the same machine with other bytes held
-abbrev pub with_input : MachineData → Input → MachineData
-with_input machine input = record {
-  session = machine.session;
-  talk = record {
-    input = input;
-    waiting = machine.talk.waiting;
-    owed = machine.talk.owed;
-    taken = machine.talk.taken;
-    stage = machine.talk.stage;
-  };
+-- the same conversation with other bytes held
+abbrev pub holds : Conversation → Input → Conversation
+holds talk input = record {
+  input = input;
+  waiting = talk.waiting;
+  owed = talk.owed;
+  taken = talk.taken;
+  stage = talk.stage;
 }
 
-here_with : (bytes written : List ℕ) (frames : List Frame) (replies : List ReplyData) (machine : MachineData) (input : Input)
-    → IsHere bytes written frames replies machine → IsHere bytes written frames replies (with_input machine input)
-here_with bytes written frames replies machine input here =
+abbrev pub with_input : MachineData → Input → MachineData
+with_input machine input = with_talk machine (holds machine.talk input)
+
+here_with : (first : SessionState) (bytes written : List ℕ) (frames : List Frame) (replies : List ReplyData) (machine : MachineData) (input : Input)
+    → IsHere first bytes written frames replies machine → IsHere first bytes written frames replies (with_input machine input)
+here_with first bytes written frames replies machine input here =
     record { counted = here.counted; few = here.few; transcript = here.transcript; paid = here.paid }
 
 -- ---- the bytes that are left
@@ -84,15 +85,15 @@ nothing_waits (Some t) waits = absurd waits
 
 framed_by : (before : Option (List ℕ)) (bytes written words : List ℕ) (frames : List Frame) (replies : List ReplyData) (machine : MachineData) (input : Input)
     → IsNext machine.talk.input (statement words) input → Stands IsLoad bytes frames before machine.talk.input → WaitsFor before machine.talk.waiting
-    → IsFramed (account_of bytes frames replies written) words (at_stage (with_input machine input) (parsing words)).talk
+    → IsFramed (account_of bytes frames replies written) words (staged (with_input machine input) (parsing words)).talk
 framed_by None bytes written words frames replies machine input next stands waits =
     record { before = machine.talk.input; stands = stands; gives = next; free = nothing_waits machine.talk.waiting waits }
 framed_by (Some text) bytes written words frames replies machine input next stands waits =
     absurd (none_not_some machine.talk.input.awaited stands.body next.before stands.awaits)
 
-pub frames_text : (bytes written words : List ℕ) (machine : MachineData) (input : Input) → IsNext machine.talk.input (statement words) input → machine.talk.owed ≡ []
-    → IsOpen bytes written machine → IsServing bytes written (at_stage (with_input machine input) (parsing words))
-frames_text bytes written words machine input next quiet is = record {
+pub frames_text : (first : SessionState) (bytes written words : List ℕ) (machine : MachineData) (input : Input) → IsNext machine.talk.input (statement words) input → machine.talk.owed ≡ []
+    → IsOpen first bytes written machine → IsServing first bytes written (staged (with_input machine input) (parsing words))
+frames_text first bytes written words machine input next quiet is = record {
   frames = is.frames;
   replies = is.replies;
   serves = record {
@@ -108,15 +109,15 @@ frames_text bytes written words machine input next quiet is = record {
 
 -- ---- a body
 
-body_by : (before : Option (List ℕ)) (bytes written : List ℕ) (frames : List Frame) (replies : List ReplyData) (content : Content) (machine : MachineData) (input : Input)
-    → IsHere bytes written frames replies machine → IsNext machine.talk.input (given content) input → Stands IsLoad bytes frames before machine.talk.input → WaitsFor before machine.talk.waiting
-    → HasBody bytes written content (with_input machine input)
-body_by None bytes written frames replies content machine input here next stands waits =
+body_by : (before : Option (List ℕ)) (first : SessionState) (bytes written : List ℕ) (frames : List Frame) (replies : List ReplyData) (content : Content) (machine : MachineData) (input : Input)
+    → IsHere first bytes written frames replies machine → IsNext machine.talk.input (given content) input → Stands IsLoad bytes frames before machine.talk.input → WaitsFor before machine.talk.waiting
+    → HasBody first bytes written content (with_input machine input)
+body_by None first bytes written frames replies content machine input here next stands waits =
     absurd (none_not_some machine.talk.input.awaited next.body stands.awaits next.before)
-body_by (Some text) bytes written frames replies content machine input here next stands waits = record {
+body_by (Some text) first bytes written frames replies content machine input here next stands waits = record {
   frames = frames;
   replies = replies;
-  here = here_with bytes written frames replies machine input here;
+  here = here_with first bytes written frames replies machine input here;
   before = machine.talk.input;
   words = text;
   stands = stands;
@@ -124,17 +125,17 @@ body_by (Some text) bytes written frames replies content machine input here next
   waits = waits;
 }
 
-pub has_body : (bytes written : List ℕ) (content : Content) (machine : MachineData) (input : Input) → IsNext machine.talk.input (given content) input
-    → IsOpen bytes written machine → HasBody bytes written content (with_input machine input)
-has_body bytes written content machine input next is =
-    body_by is.between.before bytes written is.frames is.replies content machine input is.here next is.between.stands is.between.waits
+pub has_body : (first : SessionState) (bytes written : List ℕ) (content : Content) (machine : MachineData) (input : Input) → IsNext machine.talk.input (given content) input
+    → IsOpen first bytes written machine → HasBody first bytes written content (with_input machine input)
+has_body first bytes written content machine input next is =
+    body_by is.between.before first bytes written is.frames is.replies content machine input is.here next is.between.stands is.between.waits
 
 -- ---- more bytes are needed
 
 -- no whole frame is left
-no_frame : (bytes written : List ℕ) (machine : MachineData) (input : Input) → IsNext machine.talk.input need input → (is : IsOpen bytes written machine)
+no_frame : (first : SessionState) (bytes written : List ℕ) (machine : MachineData) (input : Input) → IsNext machine.talk.input need input → (is : IsOpen first bytes written machine)
     → IsBetween (account_of bytes is.frames is.replies written) (with_input machine input).talk × HasNoFrame (account_of bytes is.frames is.replies written) (with_input machine input).talk
-no_frame bytes written machine input next is =
+no_frame first bytes written machine input next is =
     let needs = needs_at_end IsLoad load_once bytes is.frames is.between.before machine.talk.input input is.between.stands next in
     let rest = needs.1.0 in
     let are : AreFrames IsLoad bytes is.frames rest = needs.1.1 in (
@@ -151,10 +152,10 @@ no_frame bytes written machine input next is =
 all_taken : (taken : ℕ) → min MAX_READ (MAX_BYTES - taken) ≡ 0 → taken ≤ MAX_BYTES → taken ≡ MAX_BYTES
 all_taken taken none few = omega (arith, none, few)
 
-pub needs_more : (bytes written : List ℕ) (machine : MachineData) (input : Input) (wish : Wish) (new : MachineData) → machine.talk.owed ≡ [] → IsNext machine.talk.input need input
-    → Needs (with_input machine input) wish new → IsOpen bytes written machine → IsServing bytes written new
-needs_more bytes written machine input wish new quiet next (reads some wished is_new) is =
-    let none = no_frame bytes written machine input next is in
+pub needs_more : (first : SessionState) (bytes written : List ℕ) (vault : Holding) (machine : OwnMachine) (input : Input) (wish : Wish) (new : OwnMachine) → machine.talk.owed ≡ [] → IsNext machine.talk.input need input
+    → Needs (talks machine (holds machine.talk input)) wish new → IsOpen first bytes written (over vault machine) → IsServing first bytes written (over vault new)
+needs_more first bytes written vault machine input wish new quiet next (reads some wished is_new) is =
+    let none = no_frame first bytes written (over vault machine) input next is in
     rw is_new (record {
       frames = is.frames;
       replies = is.replies;
@@ -169,35 +170,35 @@ needs_more bytes written machine input wish new quiet next (reads some wished is
         );
       };
     })
-needs_more bytes written machine input wish new quiet next (stops none wished is_new) is =
-    let open_frame = no_frame bytes written machine input next is in
+needs_more first bytes written vault machine input wish new quiet next (stops none wished is_new) is =
+    let open_frame = no_frame first bytes written (over vault machine) input next is in
     let so : EndsSo (account_of bytes is.frames is.replies written) ends.SessionLimit = (
       open_frame.1.rest,
       record { frames = open_frame.1.are; written = is.here.paid },
       open_frame.1.not_long,
       is.here.counted ∙ all_taken machine.talk.taken none is.here.few,
     ) in
-    rw is_new (ends_at bytes written is.frames is.replies (with_input machine input) ends.SessionLimit (here_with bytes written is.frames is.replies machine input is.here) so)
+    rw is_new (ends_at first bytes written is.frames is.replies (with_input (over vault machine) input) ends.SessionLimit (here_with first bytes written is.frames is.replies (over vault machine) input is.here) so)
 
 -- ---- a frame is too long
 
-long_by : (before : Option (List ℕ)) (bytes written : List ℕ) (frames : List Frame) (replies : List ReplyData) (machine : MachineData) (input : Input)
-    → IsHere bytes written frames replies machine → IsNext machine.talk.input too_long input → Stands IsLoad bytes frames before machine.talk.input
+long_by : (before : Option (List ℕ)) (first : SessionState) (bytes written : List ℕ) (frames : List Frame) (replies : List ReplyData) (machine : MachineData) (input : Input)
+    → IsHere first bytes written frames replies machine → IsNext machine.talk.input too_long input → Stands IsLoad bytes frames before machine.talk.input
     → EndsSo (account_of bytes frames replies written) ends.TooLong
-long_by None bytes written frames replies machine input here next stands =
+long_by None first bytes written frames replies machine input here next stands =
     let end = too_long_at_end IsLoad bytes [] frames machine.talk.input input stands next in
     (end.0 ++ [], record { frames = subst (λ (w : List ℕ). AreFrames IsLoad w frames (end.0 ++ [])) (append-nil bytes) end.1; written = here.paid }, end.2)
-long_by (Some text) bytes written frames replies machine input here next stands =
+long_by (Some text) first bytes written frames replies machine input here next stands =
     absurd (none_not_some machine.talk.input.awaited stands.body next.before stands.awaits)
 
-pub frames_too_long : (bytes written : List ℕ) (machine : MachineData) (input : Input) → IsNext machine.talk.input too_long input
-    → IsOpen bytes written machine → IsServing bytes written (at_stage (with_input machine input) (ended ends.TooLong))
-frames_too_long bytes written machine input next is =
-    ends_at bytes written is.frames is.replies (with_input machine input) ends.TooLong (here_with bytes written is.frames is.replies machine input is.here)
-    (long_by is.between.before bytes written is.frames is.replies machine input is.here next is.between.stands)
+pub frames_too_long : (first : SessionState) (bytes written : List ℕ) (machine : MachineData) (input : Input) → IsNext machine.talk.input too_long input
+    → IsOpen first bytes written machine → IsServing first bytes written (staged (with_input machine input) (ended ends.TooLong))
+frames_too_long first bytes written machine input next is =
+    ends_at first bytes written is.frames is.replies (with_input machine input) ends.TooLong (here_with first bytes written is.frames is.replies machine input is.here)
+    (long_by is.between.before first bytes written is.frames is.replies machine input is.here next is.between.stands)
 
 -- ---- memory runs out for a frame's text
 
-pub frames_nothing : (bytes written : List ℕ) (machine : MachineData) → IsOpen bytes written machine → IsServing bytes written (at_stage machine (ended ends.Memory))
-frames_nothing bytes written machine is =
-    ends_at bytes written is.frames is.replies machine ends.Memory is.here (begun (account_of bytes is.frames is.replies written) machine.talk is.between, inl is.here.paid)
+pub frames_nothing : (first : SessionState) (bytes written : List ℕ) (machine : MachineData) → IsOpen first bytes written machine → IsServing first bytes written (staged machine (ended ends.Memory))
+frames_nothing first bytes written machine is =
+    ends_at first bytes written is.frames is.replies machine ends.Memory is.here (begun (account_of bytes is.frames is.replies written) machine.talk is.between, inl is.here.paid)

@@ -1,15 +1,13 @@
 -- Steps over longer histories.
-use Rattle.std.proofs.Common.{◌≡◌, ℕ, ◌≤◌, List, [], ◌∷◌, ◌++◌, length, take, refl, sym, ap, ◌∙◌, length-append, arith}
+use Rattle.std.proofs.Common.{◌≡◌, List, ◌++◌, Option, Some, ◌∙◌, length-append, arith}
 use Rattle.std.proofs.lemmas.List.{take-append-le}
-use Rattle.paql_ast.specs.declared.queries.Query.{Query}
-use Rattle.paql_ast.specs.declared.statements.Statement.{Statement}
-use Rattle.session_proto.specs.Input.{Content}
-use Rattle.session_proto.specs.Replies.{ReplyData}
+use Rattle.query_answer.specs.declared.kept.Kept.{Kept}
 use Rattle.version_store.specs.Histories.{History}
 use Rattle.version_store.specs.declared.changes.Change.{Change}
 use Rattle.paql_engine.specs.Laws.{LongerHistory}
-use Rattle.paql_engine.specs.State.{SessionState, seen_of, tables_seen}
-use Rattle.paql_engine.specs.Steps.{Sees, Commits, Stays, Steps, accepts, asks, refuses, is_not_built}
+use Rattle.paql_engine.specs.Loading.{insert_of}
+use Rattle.paql_engine.specs.State.{SessionState, seen_of}
+use Rattle.paql_engine.specs.Steps.{Queue, Sees, Commits, Becomes, accepts, turns, asks, refuses, is_not_built, loads, refuses_load}
 
 seen_longer : (history more : History) (old new : SessionState) → Sees history old new → seen_of (history ++ more) new ≡ seen_of history new
 seen_longer history more old new sees = take-append-le new.seen history more sees.within
@@ -20,56 +18,55 @@ sees_longer history more old new sees = record {
   later = sees.later;
 }
 
-stays_longer : (history more : History) (old new : SessionState) → Stays history old new → Stays (history ++ more) old new
-stays_longer history more old new stays = record {
-  sees = sees_longer history more old new stays.sees;
-  same = stays.same;
-  queue = stays.queue;
-  kept = stays.kept;
+pub becomes_longer : (history more : History) (old : SessionState) (queue : Queue) (kept : Option Kept) (new : SessionState) → Becomes history old queue kept new → Becomes (history ++ more) old queue kept new
+becomes_longer history more old queue kept new becomes = record {
+  sees = sees_longer history more old new becomes.sees;
+  own = becomes.own;
+  queue = becomes.queue;
+  kept = becomes.kept;
 }
 
-commits_longer : (history before more : History) (old : SessionState) (change : Change) (new : SessionState)
-    → Commits history before old change new → Commits (history ++ more) before old change new
-commits_longer history before more old change new commits = record {
+commits_longer : (history before more : History) (old : SessionState) (commit : List Change) (new : SessionState)
+    → Commits history before old commit new → Commits (history ++ more) before old commit new
+commits_longer history before more old commit new commits = record {
   sees = sees_longer history more old new commits.sees;
   last = seen_longer history more old new commits.sees ∙ commits.last;
   number = commits.number;
-  next = commits.next;
+  rose = commits.rose;
+  own = commits.own;
   queue = commits.queue;
   kept = commits.kept;
 }
 
 pub longer : LongerHistory
 longer history more old new t body reply (accepts row) = accepts (record {
-  change = row.change;
-  is = row.is;
+  commit = row.commit;
+  shows = row.shows;
+  makes = row.makes;
   before = row.before;
-  commits = commits_longer history row.before more old row.change new row.commits;
+  commits = commits_longer history row.before more old row.commit new row.commits;
   good = row.good;
   shown = row.shown;
 })
+longer history more old new t body reply (turns row) = turns (record {
+  queue = row.queue;
+  moves = row.moves;
+  becomes = becomes_longer history more old row.queue old.kept new row.becomes;
+})
 longer history more old new t body reply (asks row) =
-    let same = seen_longer history more old new row.keeps.sees in
+    let same = seen_longer history more old new row.becomes.sees in
     asks (record {
       query = row.query;
       is = row.is;
       kept = row.kept;
-      keeps = record {
-        sees = sees_longer history more old new row.keeps.sees;
-        queue = row.keeps.queue;
-        same = row.keeps.same;
-        kept = row.keeps.kept;
-      };
-      good = rw same row.good;
-      bound = row.bound;
-      binds = rw same row.binds;
-      has = rw same row.has;
-      answers = rw same row.answers;
+      becomes = becomes_longer history more old old.queue (Some row.kept) new row.becomes;
+      there = rw same row.there;
+      solves = rw same row.solves;
     })
 longer history more old new t body reply (refuses row) =
     let same = seen_longer history more old new row.stays.sees in
     refuses (record {
-      stays = stays_longer history more old new row.stays;
+      stays = becomes_longer history more old old.queue old.kept new row.stays;
       cause = row.cause;
       why = rw same row.why;
       shown = row.shown;
@@ -77,7 +74,32 @@ longer history more old new t body reply (refuses row) =
 longer history more old new t body reply (is_not_built row) =
     let same = seen_longer history more old new row.stays.sees in
     is_not_built (record {
-      stays = stays_longer history more old new row.stays;
+      stays = becomes_longer history more old old.queue old.kept new row.stays;
       is = rw same row.is;
       shown = row.shown;
+    })
+longer history more old new t body reply (loads row) = loads (record {
+  name = row.name;
+  bytes = row.bytes;
+  is = row.is;
+  free = row.free;
+  before = row.before;
+  columns = row.columns;
+  there = row.there;
+  rows = row.rows;
+  gives = row.gives;
+  commits = commits_longer history row.before more old (insert_of row.name row.rows) new row.commits;
+  good = row.good;
+  shown = row.shown;
+})
+longer history more old new t body reply (refuses_load row) =
+    let same = seen_longer history more old new row.stays.sees in
+    refuses_load (record {
+      name = row.name;
+      bytes = row.bytes;
+      is = row.is;
+      stays = becomes_longer history more old old.queue old.kept new row.stays;
+      cause = row.cause;
+      why = rw same row.why;
+      tells = row.tells;
     })

@@ -3,6 +3,11 @@ pub mod TextOnce
 pub mod Histories
 pub mod Transcripts
 pub mod Rows
+pub mod Asked
+pub mod MadeReady
+pub mod Columns
+pub mod LoadedRows
 pub mod Serving
 pub mod Framing
 pub mod Performing
+pub mod Alone

@@ -1,345 +1,322 @@
--- The rows of the statements that are performed, over the history of a session that has seen all of it.
-use Rattle.std.proofs.Common.{◌≡◌, ◌↔◌, ◌-◌, ◌^◌, min, ℕ, suc, ◌+◌, ◌<◌, List, [], ◌∷◌, ◌++◌, length, take, Option, Some, None, inl, inr, refl, sym, ap, ◌∙◌, subst, append-nil, length-append, map, Result, Ok, Err, ◌⊎◌, ◌≤◌, Bool, true, false, arith}
-use Rattle.std.specs.Str.{IsUtf8, bytes_eq}
-use Rattle.std.proofs.Math.Nat.{min-eq_left}
-use Rattle.std.specs.Prelude.{MatchOption, IsTrue, MatchResult, IfOk, IsErr, slice_get, unwrap_or, if◌then◌else◌}
-use Rattle.std.specs.Option.{option_map}
-use Rattle.std.specs.List.{AllByRecursion}
+-- The rows of the statements that are performed, over what the vault of a session holds.
+use Rattle.std.proofs.Common.{◌≡◌, ℕ, suc, ◌+◌, List, [], ◌∷◌, ◌++◌, length, take, Option, Some, None, inl, inr, refl, sym, ap, ◌∙◌, subst, append-nil, append_assoc, length-append, Result, Ok, Err, ◌⊎◌, Bool, true, false, arith}
+use Rattle.std.specs.Prelude.{◌≤◌, is_some, IsTrue, IfOk, OnOk, OnErr, slice_get, unwrap_or, if◌then◌else◌}
 use Rattle.std.specs.declared.alloc.AllocError.{AllocError}
-use Rattle.package_query.specs.Package.{AscendsFrom}
-use Rattle.table_schema.specs.Named.{schema_of}
-use Rattle.table_schema.specs.Rows.{FitsSchema}
-use Rattle.table_schema.specs.declared.cells.Cell.{Cell}
-use Rattle.bound_query.specs.Asks.{IsAskedOf, AreAskedOf}
-use Rattle.paql_bind.specs.Faults.{IsFirst}
-use Rattle.paql_bind.specs.declared.faults.Refusal.{Refusal as Fault}
-use Rattle.paql_bind.specs.Queries.{query_faults, bound_query_of, parts_of, bound_over, faults_over, table_faults}
-use Rattle.paql_bind.proofs.SoundRows.{asked_of}
-use Rattle.version_store.specs.Answers.{IsAccepted, IsRefused, IsMemory}
-use Rattle.version_store.specs.Built.{IsTable, AreTables}
-use Rattle.snapshots.specs.Entries.{Entry}
-use Rattle.snapshots.specs.States.{State, schemas, rows_of, table_named}
-use Rattle.snapshots.specs.declared.tables.Table.{Table}
-use Rattle.version_store.specs.declared.faults.CommitFault.{CommitFault}
-use Rattle.schema_types.specs.declared.Column.{Column}
-use Rattle.schema_types.specs.declared.Lit.{Lit}
 use Rattle.paql_ast.specs.declared.queries.Query.{Query}
 use Rattle.paql_ast.specs.declared.statements.Statement.{Statement}
 use Rattle.paql_ast.specs.declared.statements.Statement.TheVariants as statements
 use Rattle.session_proto.specs.Answers as answers
 use Rattle.session_proto.specs.Causes.{cause}
-use Rattle.session_proto.specs.declared.refusals.Refusal.{Refusal as Told}
 use Rattle.session_proto.specs.Input.{Content}
+use Rattle.session_proto.specs.Refusals as refusals
 use Rattle.session_proto.specs.Refusals.{Refusal, refusal_of, not_built}
 use Rattle.session_proto.specs.Replies.{ReplyData}
-use Rattle.bound_query.specs.declared.queries.BoundQuery.{BoundQuery}
-use Rattle.query_answer.specs.Answers.{Rows, HasProgram, AnswersQuery, FormRefuses}
+use Rattle.session_proto.specs.declared.refusals.BindFault.TheVariants as bindings
+use Rattle.session_proto.specs.declared.refusals.Refusal.{Refusal as Told}
+use Rattle.session_proto.specs.declared.refusals.Refusal.TheVariants.{Bind}
+use Rattle.snapshots.specs.declared.snapshot.Snapshot.{Snapshot}
 use Rattle.query_answer.specs.declared.kept.Kept.{Kept}
+use Rattle.version_store.specs.Answers.{IsMemory, state_at}
 use Rattle.version_store.specs.Histories.{History, states_of, replay, commit_faults, row_count}
+use Rattle.version_store.specs.Vaults.{Holding, IsPrefix, Sees, Accepts as Joins, Refused as Declined}
+use Rattle.snapshots.specs.declared.tables.Table.{Table}
 use Rattle.version_store.specs.declared.changes.Change.{Change}
-use Rattle.version_store.specs.declared.changes.Change.TheVariants as changes
-use Rattle.paql_engine.specs.Performed.{change_of, query_of, is_performed}
-use Rattle.paql_engine.specs.Refused.{name_in, commit_cause, binding_cause}
-use Rattle.paql_engine.specs.Replied.{reply_of}
-use Rattle.paql_engine.specs.Showing.{AnswersCommit, RefusedSo, IsToldOf, StepsTo, Grows, tables_of}
-use Rattle.paql_engine.specs.State.{SessionState, SessionData}
-use Rattle.paql_engine.specs.Steps.{RefusesQuery, Sees, Stays, Steps, Refuses, IsOther, accepted, faults_of, IsBoundTo, rows_asked, other, nameless, accepts, asks, refuses, is_not_built}
-use Rattle.paql_engine.specs.Steps.Refuses.{change as refused_change, query as refused_query}
-use Rattle.paql_engine.specs.Steps.RefusesQuery.{binding as why_binding, form as why_form}
+use Rattle.version_store.specs.declared.faults.CommitFault.{CommitFault}
+use Rattle.version_store.specs.declared.store.Committed.{Committed}
+use Rattle.version_store.specs.declared.store.VaultFault.TheVariants as vault
+use Rattle.paql_engine.specs.Performed.{change_of, query_of, is_exact, is_load, is_turn}
+use Rattle.paql_engine.specs.Queries.{Solves, RefusesQuery}
+use Rattle.paql_engine.specs.Refused.{commit_cause}
+use Rattle.paql_engine.specs.Replied.{reply_of, shown_as}
+use Rattle.paql_engine.specs.Showing.{IsToldAs, RefusedSo, RefusesCommit, IsToldOf, StepsTo, Misses, Looks}
+use Rattle.paql_engine.specs.State.{SessionData, OwnSession, Grows, session_over}
+use Rattle.paql_engine.specs.Steps.{Steps, Queue, Becomes, Makes, Moves, Refuses, IsThere, accepted as shown_to, tables_of, version_of, other, nameless, alone, whole, begins, rolls_back, queues, at_begin, at_rollback, in_commit, in_version, in_query, accepts, turns, asks, refuses, is_not_built}
+use Rattle.paql_engine.specs.declared.accepted.Accepted.{Accepted as AcceptedAs}
+use Rattle.paql_engine.specs.declared.accepted.Accepted.TheVariants.{Transaction}
 use Rattle.paql_engine.specs.declared.session.Answer.{Answer}
+use Rattle.paql_engine.specs.declared.session.Answer.TheVariants.{Made, Accepted}
 
--- a session that has seen all of a history
-abbrev pub session_of : History → Option Kept → SessionData
-session_of history kept = record { history = history; state = record { queue = None; kept = kept; seen = length history } }
+-- what a session itself keeps
+abbrev pub own : Queue → Option Kept → OwnSession
+own queue kept = record { queue = queue; kept = kept }
 
-take_all : (history : History) → take (length history) history ≡ history
+-- a step of a session over a vault that holds this before and that after it
+abbrev pub StepsOver : Holding → OwnSession → Statement → Holding → OwnSession → Answer → Type 0
+StepsOver before old t after new answer = StepsTo (session_over before old) t (session_over after new) answer
+
+pub take_all : (history : History) → take (length history) history ≡ history
 take_all [] = refl
 take_all (commit ∷ history) = ap (λ (h : History). commit ∷ h) (take_all history)
 
-sees_all : (history : History) (old new : Option Kept) → Sees history (session_of history old).state (session_of history new).state
-sees_all history old new = record { within = omega arith; later = omega arith }
-
-stays_all : (history : History) (kept : Option Kept) → Stays history (session_of history kept).state (session_of history kept).state
-stays_all history kept = record { sees = sees_all history kept kept; same = refl; queue = refl; kept = refl }
-
-length_more : (history : History) (commit : List Change) → length (history ++ commit ∷ []) ≡ suc (length history)
+pub length_more : (history : History) (commit : List Change) → length (history ++ commit ∷ []) ≡ suc (length history)
 length_more [] commit = refl
 length_more (first ∷ history) commit = ap suc (length_more history commit)
 
--- nothing more, and one more commit
-pub grows_none : (session : SessionData) → Grows session session
-grows_none session = ([], sym (append-nil session.history))
+pub longer_prefix : (old new : History) → IsPrefix old new → length old ≤ length new
+longer_prefix old new (more, is) = omega (arith, ap (λ (h : History). length h) is, length-append old more)
 
-pub grows_kept : (history : History) (old new : Option Kept) → Grows (session_of history old) (session_of history new)
-grows_kept history old new = ([], sym (append-nil history))
+-- ---- what a vault has seen
 
-pub grows_one : (history now : History) (kept : Option Kept) (change : Change) → now ≡ history ++ (change ∷ []) ∷ [] → Grows (session_of history kept) (session_of now kept)
-grows_one history now kept change is = ((change ∷ []) ∷ [], is)
+pub sees_same : (vault : Holding) → Sees vault vault
+sees_same vault = record { held = ([], sym (append-nil vault.held)); own = refl; stake = refl }
 
--- ---- a commit
+pub grows_seen : (before after : Holding) → Sees before after → Grows before after
+grows_seen before after sees = record { held = sees.held; stake = sees.stake }
 
-pub row_accepts : (history : History) (kept : Option Kept) (t : Statement) (change : Change) (answer : Answer)
-    → change_of t ≡ Some change → commit_faults (states_of history) (change ∷ []) ≡ []
-    → reply_of answer ≡ accepted change (row_count (states_of history) (change ∷ [])) (length history + 1)
-    → StepsTo (session_of history kept) t (session_of (history ++ (change ∷ []) ∷ []) kept) answer
-row_accepts history kept t change answer is good shown body =
-    let now : History = history ++ (change ∷ []) ∷ [] in
-    let number : length now ≡ suc (length history) = length_more history (change ∷ []) in
-    let plus : length history + 1 ≡ length now = omega (arith, number) in
+pub grows_same : (vault : Holding) → Grows vault vault
+grows_same vault = grows_seen vault vault (sees_same vault)
+
+pub grows_joined : (before after : Holding) (commit : List Change) (committed : Committed) → Joins before after commit committed → Grows before after
+grows_joined before after commit committed joins = record {
+  held = (
+    joins.held.0 ++ commit ∷ [],
+    joins.joins.history ∙ ap (λ (h : History). h ++ commit ∷ []) joins.held.1 ∙ append_assoc before.held joins.held.0 (commit ∷ []),
+  );
+  stake = joins.stake;
+}
+
+-- whatever came of a statement
+pub seen_on_err : (before after : Holding) (result : Result Answer AllocError) → Sees before after → OnErr result (Sees before after)
+seen_on_err before after (Ok answer) sees = tt
+seen_on_err before after (Err error) sees = sees
+
+pub same_on_err : (old new : OwnSession) (result : Result Answer AllocError) → new ≡ old → OnErr result (new ≡ old)
+same_on_err old new (Ok answer) same = tt
+same_on_err old new (Err error) same = same
+
+pub becomes_over : (before after : Holding) (old new : Queue) (was kept : Option Kept) → Sees before after
+    → Becomes after.held (session_over before (own old was)).state new kept (session_over after (own new kept)).state
+becomes_over before after old new was kept sees = record {
+  sees = record { within = omega arith; later = longer_prefix before.held after.held sees.held };
+  own = sees.own;
+  queue = refl;
+  kept = refl;
+}
+
+pub queue_is : (old : OwnSession) (queue held : Queue) (kept : Option Kept) → own queue kept ≡ old → old.queue ≡ held → queue ≡ held
+queue_is old queue held kept is known = ap (λ (session : OwnSession). session.queue) is ∙ known
+
+pub queue_was : (old : OwnSession) (queue held : Queue) (kept : Option Kept) → own queue kept ≡ old → queue ≡ held → own held kept ≡ old
+queue_was old queue held kept is known = ap (λ (q : Queue). own q kept) (sym known) ∙ is
+
+-- ---- the queue alone
+
+pub moves_to : (before after : Holding) (old : OwnSession) (queue new : Queue) (kept : Option Kept) (t : Statement) (answer : Answer)
+    → Sees before after → own queue kept ≡ old → Moves queue t new (reply_of answer) → StepsOver before old t after (own new kept) answer
+moves_to before after old queue new kept t answer sees is moves =
+    subst (λ (session : OwnSession). StepsOver before session t after (own new kept) answer) is
+    (λ body. turns (record { queue = new; moves = moves; becomes = becomes_over before after queue new kept kept sees }))
+
+pub moves_by : (before after : Holding) (old : OwnSession) (queue new : Queue) (kept : Option Kept) (t : Statement) (answer : Answer) (reply : ReplyData)
+    → Sees before after → own queue kept ≡ old → Moves queue t new reply → reply_of answer ≡ reply → StepsOver before old t after (own new kept) answer
+moves_by before after old queue new kept t answer reply sees is moves shown =
+    moves_to before after old queue new kept t answer sees is (subst (Moves queue t new) (sym shown) moves)
+
+-- ---- an accepted commit
+
+row_accepts : (before after : Holding) (queue : Queue) (kept : Option Kept) (t : Statement) (commit : List Change) (shows : ℕ → ℕ → ReplyData) (answer : Answer) (committed : Committed)
+    (joins : Joins before after commit committed) → Makes queue t commit shows
+    → reply_of answer ≡ shows (row_count (states_of joins.before) commit) (length after.held)
+    → StepsOver before (own queue kept) t after (own None kept) answer
+row_accepts before after queue kept t commit shows answer committed joins makes shown body =
+    let number : length after.held ≡ suc (length joins.before) = ap (λ (h : History). length h) joins.joins.history ∙ length_more joins.before commit in
+    let least = longer_prefix before.held joins.before joins.held in
     accepts (record {
-      change = change;
-      is = is;
-      before = history;
+      commit = commit;
+      shows = shows;
+      makes = makes;
+      before = joins.before;
       commits = record {
-        sees = record { within = omega arith; later = omega (arith, number) };
-        last = take_all now;
+        sees = record { within = omega arith; later = omega (arith, number, least) };
+        last = take_all after.held ∙ joins.joins.history;
         number = number;
-        next = number;
+        rose = omega (arith, number, least);
+        own = joins.own;
         queue = refl;
         kept = refl;
       };
-      good = good;
-      shown = shown ∙ ap (accepted change (row_count (states_of history) (change ∷ []))) plus;
+      good = joins.joins.faultless;
+      shown = shown;
     })
 
--- ---- a query
+accepted_shown : (before after : Holding) (commit : List Change) (shows : ℕ → ℕ → ReplyData) (accepted : AcceptedAs) (committed : Committed) (joins : Joins before after commit committed)
+    → ((rows version : ℕ) → shown_as accepted rows version ≡ shows rows version)
+    → shown_as accepted committed.rows committed.version ≡ shows (row_count (states_of joins.before) commit) (length after.held)
+accepted_shown before after commit shows accepted committed joins same =
+    same committed.rows committed.version ∙ ap (λ (n : ℕ). shows n committed.version) joins.joins.rows
+    ∙ ap (shows (row_count (states_of joins.before) commit)) joins.joins.version
 
-pub row_asks : (history : History) (old : Option Kept) (kept : Kept) (t : Statement) (query : Query) (bound : BoundQuery) (answer : Answer)
-    → query_of t ≡ Some query → faults_of (replay history) query ≡ [] → IsBoundTo (replay history) query bound
-    → HasProgram bound (rows_asked (replay history) query)
-    → AnswersQuery bound (rows_asked (replay history) query) (length history) (reply_of answer) kept
-    → StepsTo (session_of history old) t (session_of history (Some kept)) answer
-row_asks history old kept t query bound answer is good binds has answers body =
-    let same = take_all history in
-    asks (record {
-      query = query;
-      is = is;
-      kept = kept;
-      keeps = record { sees = sees_all history old (Some kept); queue = refl; same = refl; kept = refl };
-      good = rw same good;
-      bound = bound;
-      binds = rw same binds;
-      has = rw same has;
-      answers = rw same answers;
-    })
+pub accepted_steps : (before after : Holding) (old : OwnSession) (queue : Queue) (kept : Option Kept) (t : Statement) (commit : List Change) (shows : ℕ → ℕ → ReplyData) (accepted : AcceptedAs) (committed : Committed)
+    → own queue kept ≡ old → Makes queue t commit shows → ((rows version : ℕ) → shown_as accepted rows version ≡ shows rows version)
+    → Joins before after commit committed → StepsOver before old t after (own None kept) (Accepted accepted committed)
+accepted_steps before after old queue kept t commit shows accepted committed is makes same joins =
+    subst (λ (session : OwnSession). StepsOver before session t after (own None kept) (Accepted accepted committed)) is
+    (row_accepts before after queue kept t commit shows (Accepted accepted committed) committed joins makes (accepted_shown before after commit shows accepted committed joins same))
 
 -- ---- refusals
 
-pub row_refuses : (history : History) (kept : Option Kept) (t : Statement) (cause : Refusal) (answer : Answer)
-    → Refuses history (replay history) t cause → IsToldOf cause answer
-    → StepsTo (session_of history kept) t (session_of history kept) answer
-row_refuses history kept t cause answer why (inl told) body =
-    let same = take_all history in
-    refuses (record { stays = stays_all history kept; cause = cause; why = rw same why; shown = told })
-row_refuses history kept t cause answer why (inr told) body =
-    let same = take_all history in
-    is_not_built (record { stays = stays_all history kept; is = rw same (nameless cause why told.1); shown = told.0 })
+row_refuses : (before after : Holding) (queue : Queue) (kept : Option Kept) (t : Statement) (due : Refusal) (answer : Answer)
+    → Sees before after → Refuses after.held queue t due → IsToldOf due answer → StepsOver before (own queue kept) t after (own queue kept) answer
+row_refuses before after queue kept t due answer sees why (inl told) body =
+    let same = take_all after.held in
+    refuses (record { stays = becomes_over before after queue queue kept kept sees; cause = due; why = rw same why; shown = told })
+row_refuses before after queue kept t due answer sees why (inr told) body =
+    let same = take_all after.held in
+    is_not_built (record { stays = becomes_over before after queue queue kept kept sees; is = rw same (nameless due why told.1); shown = told.0 })
 
-pub row_other : (history : History) (kept : Option Kept) (t : Statement) (answer : Answer)
-    → change_of t ≡ None → query_of t ≡ None → reply_of answer ≡ refusal_of not_built
-    → StepsTo (session_of history kept) t (session_of history kept) answer
-row_other history kept t answer no_change no_query shown body =
-    is_not_built (record { stays = stays_all history kept; is = other no_change no_query; shown = shown })
-
--- ---- trees
-
-pub creates : (table : List ℕ) (columns : List Column) → 0 < length columns → change_of (statements.Create table columns) ≡ Some (changes.Create table columns)
-creates table [] some = absurd (omega (arith, some))
-creates table (column ∷ columns) some = refl
-
-pub some_if : (columns : List Column) (b : Bool) → (IsTrue b ↔ (columns ≡ [])) → b ≡ false → 0 < length columns
-some_if [] b same is = absurd (cc (same.1 refl, is))
-some_if (column ∷ columns) b same is = omega arith
-
-pub creates_none : (table : List ℕ) (columns : List Column) → columns ≡ [] → change_of (statements.Create table columns) ≡ None
-creates_none table columns none = rw none refl
-
-pub rest_none : (t : Statement) → ((table : List ℕ) (columns : List Column) → ¬ (t ≡ statements.Create table columns)) → ((table : List ℕ) (rows : List (List Lit)) → ¬ (t ≡ statements.Insert table rows))
-    → ((query : Query) → ¬ (t ≡ statements.Query query)) → (change_of t ≡ None) × (query_of t ≡ None)
-rest_none (statements.Create table columns) no_create no_insert no_query = absurd (no_create table columns refl)
-rest_none (statements.Insert table rows) no_create no_insert no_query = absurd (no_insert table rows refl)
-rest_none (statements.Query query) no_create no_insert no_query = absurd (no_query query refl)
-rest_none (statements.Load table bytes) no_create no_insert no_query = (refl, refl)
-rest_none (statements.Update table sets filter) no_create no_insert no_query = (refl, refl)
-rest_none (statements.Delete table filter) no_create no_insert no_query = (refl, refl)
-rest_none (statements.Partition table columns size radius) no_create no_insert no_query = (refl, refl)
-rest_none (statements.Vacuum version) no_create no_insert no_query = (refl, refl)
-rest_none statements.Begin no_create no_insert no_query = (refl, refl)
-rest_none statements.Commit no_create no_insert no_query = (refl, refl)
-rest_none statements.Rollback no_create no_insert no_query = (refl, refl)
-rest_none statements.Certificate no_create no_insert no_query = (refl, refl)
-
--- ---- commits
-
-told_refuses : (history : History) (t : Statement) (change : Change) (fault : CommitFault) → change_of t ≡ Some change
-    → slice_get (commit_faults (states_of history) (change ∷ [])) 0 ≡ Some fault → Refuses history (replay history) t (commit_cause fault)
-told_refuses history t change fault is first = refused_change change is (record { fault = fault; first = first; is = refl })
-
-commit_steps_of : (history now : History) (kept : Option Kept) (t : Statement) (change : Change) (outcome : Result (Unit {0}) CommitFault) (reply : ReplyData) (answer : Answer)
-    → change_of t ≡ Some change → MatchResult outcome (λ (done : Unit {0}). IsAccepted history now (change ∷ [])) (λ (fault : CommitFault). IsRefused history now (change ∷ []) fault)
-    → reply ≡ accepted change (row_count (states_of history) (change ∷ [])) (length history + 1) → AnswersCommit outcome reply answer
-    → StepsTo (session_of history kept) t (session_of now kept) answer
-commit_steps_of history now kept t change (Ok done) reply answer is comes shown answers =
-    subst (λ (h : History). StepsTo (session_of history kept) t (session_of h kept) answer) (sym comes.history)
-    (row_accepts history kept t change answer is comes.faultless (answers ∙ shown))
-commit_steps_of history now kept t change (Err fault) reply answer is comes shown answers =
-    subst (λ (h : History). StepsTo (session_of history kept) t (session_of h kept) answer) (sym comes.history)
-    (row_refuses history kept t (commit_cause fault) answer (due comes.due) answers.1)
-  where
-    due : (slice_get (commit_faults (states_of history) (change ∷ [])) 0 ≡ Some fault) ⊎ IsMemory fault → Refuses history (replay history) t (commit_cause fault)
-    due (inl first) = told_refuses history t change fault is first
-    due (inr memory) = absurd (answers.0 memory.kind)
-
-pub commit_steps : (history now : History) (kept : Option Kept) (t : Statement) (change : Change) (outcome : Result (Unit {0}) CommitFault) (reply : ReplyData) (result : Result Answer AllocError)
-    → change_of t ≡ Some change → MatchResult outcome (λ (done : Unit {0}). IsAccepted history now (change ∷ [])) (λ (fault : CommitFault). IsRefused history now (change ∷ []) fault)
-    → reply ≡ accepted change (row_count (states_of history) (change ∷ [])) (length history + 1) → IfOk result (AnswersCommit outcome reply)
-    → IfOk result (StepsTo (session_of history kept) t (session_of now kept))
-commit_steps history now kept t change outcome reply (Ok answer) is comes shown answers = commit_steps_of history now kept t change outcome reply answer is comes shown answers
-commit_steps history now kept t change outcome reply (Err error) is comes shown answers = tt
-
-pub commit_grows : (history now : History) (kept : Option Kept) (change : Change) (outcome : Result (Unit {0}) CommitFault)
-    → MatchResult outcome (λ (done : Unit {0}). IsAccepted history now (change ∷ [])) (λ (fault : CommitFault). IsRefused history now (change ∷ []) fault)
-    → Grows (session_of history kept) (session_of now kept)
-commit_grows history now kept change (Ok done) comes = ((change ∷ []) ∷ [], comes.history)
-commit_grows history now kept change (Err fault) comes = ([], comes.history ∙ sym (append-nil history))
-
-pub commit_same : (history now : History) (change : Change) (outcome : Result (Unit {0}) CommitFault)
-    → MatchResult outcome (λ (done : Unit {0}). IsAccepted history now (change ∷ [])) (λ (fault : CommitFault). IsRefused history now (change ∷ []) fault)
-    → IsErr outcome → now ≡ history
-commit_same history now change (Ok done) comes wrong = absurd (cc wrong)
-commit_same history now change (Err fault) comes wrong = comes.history
-
--- ---- the rows of a query
-
-either_is : (table : Table) (name : List ℕ) (tables : List Table)
-    → schema_of name (map (λ (table : Table). (table.name, table.columns)) tables) ≡ option_map (λ (table : Table). table.columns) (table_named name tables) → (same : Bool)
-    → (if same then Some table.columns else schema_of name (map (λ (table : Table). (table.name, table.columns)) tables)) ≡ option_map (λ (table : Table). table.columns) (if same then Some table else table_named name tables)
-either_is table name tables rest true = refl
-either_is table name tables rest false = rest
-
-schema_is : (tables : List Table) (name : List ℕ) → schema_of name (map (λ (table : Table). (table.name, table.columns)) tables) ≡ option_map (λ (table : Table). table.columns) (table_named name tables)
-schema_is [] name = refl
-schema_is (table ∷ tables) name = either_is table name tables (schema_is tables name) (bytes_eq table.name name)
-
-either_holds : (P : Table → Type 0) (table : Table) (rest_of : Option Table) (found : Table) → P table → (rest_of ≡ Some found → P found)
-    → (same : Bool) → (if same then Some table else rest_of) ≡ Some found → P found
-either_holds P table rest_of found this rest true e = subst P (cc e) this
-either_holds P table rest_of found this rest false e = rest e
-
-named_holds : (P : Table → Type 0) (tables : List Table) (name : List ℕ) (found : Table) → AllByRecursion P tables → table_named name tables ≡ Some found → P found
-named_holds P [] name found all is = absurd (cc is)
-named_holds P (table ∷ tables) name found all is = either_holds P table (table_named name tables) found all.0 (λ e. named_holds P tables name found all.1 e) (bytes_eq table.name name) is
-
-rows_asked_of : (columns : List Column) (query : Query) (bound : BoundQuery) (entries : List Entry) → faults_over columns query ≡ [] → parts_of bound ≡ bound_over columns query
-    → AllByRecursion (λ (entry : Entry). FitsSchema columns entry.row) entries
-    → AllByRecursion (λ (entry : ℕ × List Cell). IsAskedOf bound entry.1) (map (λ (entry : Entry). (entry.id, entry.row)) entries)
-rows_asked_of columns query bound [] none binds fit = tt
-rows_asked_of columns query bound (entry ∷ entries) none binds fit =
-    (asked_of columns query bound entry.row none binds fit.0, rows_asked_of columns query bound entries none binds fit.1)
-
-length_rows : (entries : List Entry) → length {A = ℕ × List Cell} (map (λ (entry : Entry). (entry.id, entry.row)) entries) ≡ length entries
-length_rows [] = refl
-length_rows (entry ∷ entries) = ap suc (length_rows entries)
-
-pub are_asked : (tables : State) (query : Query) (bound : BoundQuery) → AreTables tables.tables → faults_of tables query ≡ [] → IsBoundTo tables query bound
-    → AscendsFrom 0 (rows_asked tables query) → AreAskedOf bound (rows_asked tables query)
-are_asked tables query bound are none binds ids = at (table_named query.table tables.tables) refl
-  where
-    at : (found : Option Table) → table_named query.table tables.tables ≡ found → AreAskedOf bound (rows_asked tables query)
-    at None e =
-        let missing : schema_of query.table (schemas tables) ≡ None = schema_is tables.tables query.table ∙ ap (option_map (λ (table : Table). table.columns)) e in
-        let named : table_faults None query ≡ [] = subst (λ (schema : Option (List Column)). table_faults schema query ≡ []) missing none in
-        absurd (cc named)
-    at (Some table) e =
-        let columns : schema_of query.table (schemas tables) ≡ Some table.columns = schema_is tables.tables query.table ∙ ap (option_map (λ (table : Table). table.columns)) e in
-        let good : faults_over table.columns query ≡ [] = subst (λ (schema : Option (List Column)). table_faults schema query ≡ []) columns none in
-        let bounds : parts_of bound ≡ bound_over table.columns query = subst (λ (schema : Option (List Column)). parts_of bound ≡ bound_over (unwrap_or schema []) query) columns binds in
-        let is = named_holds IsTable tables.tables query.table table are.each e in
-        let rows : rows_asked tables query ≡ rows_of table = ap (λ (found : Option Table). unwrap_or (option_map rows_of found) []) e in
-        record {
-          ascending = ids;
-          few = subst (λ (all : List (ℕ × List Cell)). length all ≤ 200000) (sym rows) (omega (arith, length_rows table.entries, is.few));
-          each = subst (λ (all : List (ℕ × List Cell)). AllByRecursion (λ (entry : ℕ × List Cell). IsAskedOf bound entry.1) all) (sym rows) (rows_asked_of table.columns query bound table.entries good bounds is.rows);
-        }
-
--- ---- the session as its fields give it
-
-tables_are : (now : SessionData) (history : History) (kept : Option Kept) → session_of history kept ≡ now → tables_of now ≡ replay history
-tables_are now history kept is = subst (λ (session : SessionData). tables_of session ≡ replay history) is (ap replay (take_all history))
-
-pub asked_rows : (now : SessionData) (history : History) (kept : Option Kept) → session_of history kept ≡ now → (query : Query) (bound : BoundQuery) (rows : Rows)
-    → faults_of (tables_of now) query ≡ [] → IsBoundTo (tables_of now) query bound → rows ≡ rows_asked (replay history) query → AscendsFrom 0 rows → AreTables (replay history).tables
-    → AreAskedOf bound rows
-asked_rows now history kept is query bound rows good binds rows_are ids built =
-    let same = tables_are now history kept is in
-    let good' : faults_of (replay history) query ≡ [] = subst (λ (tables : State). faults_of tables query ≡ []) same good in
-    let binds' : IsBoundTo (replay history) query bound = subst (λ (tables : State). IsBoundTo tables query bound) same binds in
-    subst (AreAskedOf bound) (sym rows_are) (are_asked (replay history) query bound built good' binds' (subst (AscendsFrom 0) rows_are ids))
-
-pub bound_same : (now : SessionData) (history : History) (kept : Option Kept) → session_of history kept ≡ now → (query : Query) (bound : BoundQuery) (all : List (List ℕ × List Column))
-    → all ≡ schemas (replay history) → parts_of bound ≡ bound_query_of all query → IsBoundTo (tables_of now) query bound
-bound_same now history kept is query bound all all_is binds =
-    subst (λ (tables : State). IsBoundTo tables query bound) (sym (tables_are now history kept is))
-    (subst (λ (named : List (List ℕ × List Column)). parts_of bound ≡ bound_query_of named query) all_is binds)
-
-performed_if : (query : Query) (b : Bool) → IsTrue b → (if b then Some query else None) ≡ Some query
-performed_if query true is = refl
-performed_if query false is = absurd (cc is)
-
-pub performed_is : (query : Query) → IsTrue (is_performed query) → query_of (statements.Query query) ≡ Some query
-performed_is query is = performed_if query (is_performed query) is
-
-pub passed_is : (query : Query) → is_performed query ≡ false → query_of (statements.Query query) ≡ None
-passed_is query is = ap (λ (b : Bool). if b then Some query else None) is
-
-pub solved : (now : SessionData) (history : History) (old : Option Kept) → session_of history old ≡ now → (kept : Kept) (query : Query) (bound : BoundQuery) (rows : Rows) (version : ℕ) (answer : Answer)
-    → IsTrue (is_performed query) → faults_of (tables_of now) query ≡ [] → IsBoundTo (tables_of now) query bound → rows ≡ rows_asked (replay history) query → version ≡ length history
-    → HasProgram bound rows × AnswersQuery bound rows version (reply_of answer) kept
-    → (body : Content) → Steps history now.state (statements.Query query) body (reply_of answer) (session_of history (Some kept)).state
-solved now history old is kept query bound rows version answer performed good binds rows_are number answers =
-    let same = tables_are now history old is in
-    let good' : faults_of (replay history) query ≡ [] = subst (λ (tables : State). faults_of tables query ≡ []) same good in
-    let binds' : IsBoundTo (replay history) query bound = subst (λ (tables : State). IsBoundTo tables query bound) same binds in
-    let has : HasProgram bound (rows_asked (replay history) query) = subst (HasProgram bound) rows_are answers.0 in
-    let of_rows : AnswersQuery bound (rows_asked (replay history) query) version (reply_of answer) kept = subst (λ (all : Rows). AnswersQuery bound all version (reply_of answer) kept) rows_are answers.1 in
-    let of_all : AnswersQuery bound (rows_asked (replay history) query) (length history) (reply_of answer) kept = subst (λ (n : ℕ). AnswersQuery bound (rows_asked (replay history) query) n (reply_of answer) kept) number of_rows in
-    subst (λ (session : SessionData). (body : Content) → Steps history session.state (statements.Query query) body (reply_of answer) (session_of history (Some kept)).state) is
-    (row_asks history old kept (statements.Query query) query bound answer (performed_is query performed) good' binds' has of_all)
-
-told_of : (due : Refusal) (refusal : Option Told) (answer : Answer) → MatchOption refusal (¬ IsUtf8 (name_in due)) (λ (told : Told). cause told ≡ due) → RefusedSo refusal answer → IsToldOf due answer
+pub told_of : (due : Refusal) (refusal : Option Told) (answer : Answer) → IsToldAs due refusal → RefusedSo refusal answer → IsToldOf due answer
 told_of due None answer nameless_is shown = inr (shown, nameless_is)
 told_of due (Some told) answer is shown = inl (shown ∙ ap refusal_of is)
 
-query_refuses_of : (history : History) (kept : Option Kept) (query : Query) → IsTrue (is_performed query) → (due : Refusal) → RefusesQuery (replay history) query due
-    → (refusal : Option Told) → MatchOption refusal (¬ IsUtf8 (name_in due)) (λ (told : Told). cause told ≡ due)
-    → (result : Result Answer AllocError) → IfOk result (RefusedSo refusal)
-    → IfOk result (StepsTo (session_of history kept) (statements.Query query) (session_of history kept))
-query_refuses_of history kept query performed due why refusal told (Ok answer) shown =
-    row_refuses history kept (statements.Query query) due answer (refused_query query (performed_is query performed) why) (told_of due refusal answer told shown)
-query_refuses_of history kept query performed due why refusal told (Err error) shown = tt
+-- a refusal that is told
+pub refused_steps : (before after : Holding) (old : OwnSession) (queue : Queue) (kept : Option Kept) (t : Statement) (due : Refusal) (refusal : Option Told) (result : Result Answer AllocError)
+    → Sees before after → own queue kept ≡ old → Refuses after.held queue t due → IsToldAs due refusal → IfOk result (RefusedSo refusal)
+    → IfOk result (StepsOver before old t after (own queue kept))
+refused_steps before after old queue kept t due refusal (Ok answer) sees is why told shown =
+    subst (λ (session : OwnSession). StepsOver before session t after (own queue kept) answer) is (row_refuses before after queue kept t due answer sees why (told_of due refusal answer told shown))
+refused_steps before after old queue kept t due refusal (Err error) sees is why told shown = tt
 
-pub query_refuses : (now : SessionData) (history : History) (kept : Option Kept) → session_of history kept ≡ now → (query : Query) → IsTrue (is_performed query)
-    → (due : Refusal) → RefusesQuery (replay history) query due
-    → (refusal : Option Told) → MatchOption refusal (¬ IsUtf8 (name_in due)) (λ (told : Told). cause told ≡ due)
-    → (result : Result Answer AllocError) → IfOk result (RefusedSo refusal)
-    → IfOk result (StepsTo now (statements.Query query) now)
-query_refuses now history kept is query performed due why refusal told result shown =
-    subst (λ (session : SessionData). IfOk result (StepsTo session (statements.Query query) session)) is
-    (query_refuses_of history kept query performed due why refusal told result shown)
+-- a refusal without a name
+pub plainly_refused : (before after : Holding) (old : OwnSession) (queue : Queue) (kept : Option Kept) (t : Statement) (due : Refusal) (result : Result Answer AllocError)
+    → Sees before after → own queue kept ≡ old → Refuses after.held queue t due → IfOk result (λ (answer : Answer). reply_of answer ≡ refusal_of due)
+    → IfOk result (StepsOver before old t after (own queue kept))
+plainly_refused before after old queue kept t due (Ok answer) sees is why shown =
+    subst (λ (session : OwnSession). StepsOver before session t after (own queue kept) answer) is (row_refuses before after queue kept t due answer sees why (inl shown))
+plainly_refused before after old queue kept t due (Err error) sees is why shown = tt
 
-pub names_refuse : (history : History) (query : Query) (all : List (List ℕ × List Column)) (fault : Fault) → all ≡ schemas (replay history)
-    → IsFirst (query_faults all query) fault → RefusesQuery (replay history) query (binding_cause None fault)
-names_refuse history query all fault all_is first = why_binding fault (subst (λ (named : List (List ℕ × List Column)). IsFirst (query_faults named query) fault) all_is first)
+-- a refused commit
+commit_due : (history : History) (queue : Queue) (t : Statement) (commit : List Change) (shows : ℕ → ℕ → ReplyData) (fault : CommitFault) (answer : Answer)
+    → Makes queue t commit shows → (slice_get (commit_faults (states_of history) commit) 0 ≡ Some fault) ⊎ IsMemory fault → RefusesCommit fault answer → Refuses history queue t (commit_cause fault)
+commit_due history queue t commit shows fault answer makes (inl first) told = in_commit queue t commit shows fault makes first
+commit_due history queue t commit shows fault answer makes (inr memory) told = absurd (told.0 memory.kind)
 
-pub form_refuses : (now : SessionData) (history : History) (kept : Option Kept) → session_of history kept ≡ now → (query : Query) (bound : BoundQuery) (rows : Rows) (due : Refusal)
-    → faults_of (tables_of now) query ≡ [] → IsBoundTo (tables_of now) query bound → rows ≡ rows_asked (replay history) query → FormRefuses bound rows due
-    → RefusesQuery (replay history) query due
-form_refuses now history kept is query bound rows due good binds rows_are why =
-    let same = tables_are now history kept is in
-    let good' : faults_of (replay history) query ≡ [] = subst (λ (tables : State). faults_of tables query ≡ []) same good in
-    let binds' : IsBoundTo (replay history) query bound = subst (λ (tables : State). IsBoundTo tables query bound) same binds in
-    let of_rows : FormRefuses bound (rows_asked (replay history) query) due = subst (λ (all : Rows). FormRefuses bound all due) rows_are why in
-    why_form bound due good' binds' of_rows
+pub commit_refused : (before after : Holding) (old : OwnSession) (queue : Queue) (kept : Option Kept) (t : Statement) (commit : List Change) (shows : ℕ → ℕ → ReplyData) (fault : CommitFault) (result : Result Answer AllocError)
+    → own queue kept ≡ old → Makes queue t commit shows → Declined before after commit fault → IfOk result (RefusesCommit fault)
+    → IfOk result (StepsOver before old t after (own queue kept))
+commit_refused before after old queue kept t commit shows fault (Ok answer) is makes comes told =
+    subst (λ (session : OwnSession). StepsOver before session t after (own queue kept) answer) is
+    (row_refuses before after queue kept t (commit_cause fault) answer comes.sees (commit_due after.held queue t commit shows fault answer makes comes.due told) told.1)
+commit_refused before after old queue kept t commit shows fault (Err error) is makes comes told = tt
+
+-- ---- BEGIN and ROLLBACK, and COMMIT without a transaction
+
+pub begin_refused : (vault : Holding) (old : OwnSession) (queue : Queue) (kept : Option Kept) (result : Result Answer AllocError)
+    → own queue kept ≡ old → is_some queue ≡ true → IfOk result (λ (answer : Answer). reply_of answer ≡ refusal_of refusals.in_transaction)
+    → IfOk result (StepsOver vault old statements.Begin vault old)
+begin_refused vault old None kept result is opened shown = absurd (cc opened)
+begin_refused vault old (Some list) kept result is opened shown =
+    subst (λ (session : OwnSession). IfOk result (StepsOver vault old statements.Begin vault session)) is
+    (plainly_refused vault vault old (Some list) kept statements.Begin refusals.in_transaction result (sees_same vault) is (at_begin list) shown)
+
+pub begins_now : (vault : Holding) (old : OwnSession) (queue : Queue) (kept : Option Kept) (list : List Change) (reply : ReplyData)
+    → own queue kept ≡ old → is_some queue ≡ false → reply ≡ answers.begun → list ≡ [] → StepsOver vault old statements.Begin vault (own (Some list) kept) (Made reply)
+begins_now vault old None kept list reply is free shown empty =
+    moves_by vault vault old None (Some list) kept statements.Begin (Made reply) answers.begun (sees_same vault) is
+    (subst (λ (l : List Change). Moves None statements.Begin (Some l) answers.begun) (sym empty) begins) shown
+begins_now vault old (Some open_queue) kept list reply is free shown empty = absurd (cc free)
+
+pub unopened : (vault : Holding) (old : OwnSession) (t : Statement) (queue left : Queue) (kept : Option Kept) (result : Result Answer AllocError)
+    → own queue kept ≡ old → queue ≡ None → left ≡ None → ((history : History) → Refuses history None t refusals.not_in_transaction)
+    → IfOk result (λ (answer : Answer). reply_of answer ≡ refusal_of refusals.not_in_transaction)
+    → IfOk result (StepsOver vault old t vault (own left kept))
+unopened vault old t queue left kept result is free after why shown =
+    subst (λ (q : Queue). IfOk result (StepsOver vault old t vault (own q kept))) (sym after)
+    (plainly_refused vault vault old None kept t refusals.not_in_transaction result (sees_same vault) (queue_was old queue None kept is free) (why vault.held) shown)
+
+none_open : (queue : Queue) → is_some queue ≡ false → queue ≡ None
+none_open None free = refl
+none_open (Some list) free = absurd (cc free)
+
+pub roll_back_refused : (vault : Holding) (old : OwnSession) (queue : Queue) (kept : Option Kept) (result : Result Answer AllocError)
+    → own queue kept ≡ old → is_some queue ≡ false → IfOk result (λ (answer : Answer). reply_of answer ≡ refusal_of refusals.not_in_transaction)
+    → IfOk result (StepsOver vault old statements.Rollback vault old)
+roll_back_refused vault old queue kept result is free shown =
+    let none = none_open queue free in
+    subst (λ (session : OwnSession). IfOk result (StepsOver vault old statements.Rollback vault session)) (queue_was old queue None kept is none)
+    (unopened vault old statements.Rollback queue None kept result is none refl (λ (history : History). at_rollback) shown)
+
+pub rolls_back_now : (vault : Holding) (old : OwnSession) (queue : Queue) (kept : Option Kept) (reply : ReplyData)
+    → own queue kept ≡ old → is_some queue ≡ true → reply ≡ answers.rolled_back → StepsOver vault old statements.Rollback vault (own None kept) (Made reply)
+rolls_back_now vault old None kept reply is opened shown = absurd (cc opened)
+rolls_back_now vault old (Some list) kept reply is opened shown =
+    moves_by vault vault old (Some list) None kept statements.Rollback (Made reply) answers.rolled_back (sees_same vault) is (rolls_back list) shown
+
+-- ---- statements that aren't performed
+
+pub row_other : (vault : Holding) (session : OwnSession) (t : Statement) (answer : Answer)
+    → change_of t ≡ None → query_of t ≡ None → is_load t ≡ false → is_turn t ≡ false → reply_of answer ≡ refusal_of not_built
+    → StepsOver vault session t vault session answer
+row_other vault session t answer no_change no_query no_load no_turn shown body =
+    is_not_built (record { stays = becomes_over vault vault session.queue session.queue session.kept session.kept (sees_same vault); is = other no_change no_query no_load no_turn; shown = shown })
+
+-- ---- queries
+
+exact_if : (query : Query) (b : Bool) → IsTrue b → (if b then Some query else None) ≡ Some query
+exact_if query true is = refl
+exact_if query false is = absurd (cc is)
+
+pub exactly : (query : Query) → IsTrue (is_exact query.method) → query_of (statements.Query query) ≡ Some query
+exactly query is = exact_if query (is_exact query.method) is
+
+pub inexact_is : (query : Query) → is_exact query.method ≡ false → query_of (statements.Query query) ≡ None
+inexact_is query is = ap (λ (b : Bool). if b then Some query else None) is
+
+-- what a version shows that was asked for, or the last
+pub record Shows (history : History) (version : Option ℕ) (snapshot : Snapshot) : Type 0 where
+  pub there : IsThere history version
+  pub tables : snapshot.tables ≡ (state_at history (unwrap_or version (length history))).tables
+  pub number : snapshot.version ≡ unwrap_or version (length history)
+
+pub looked : (history : History) (version : Option ℕ) (snapshot : Snapshot) → Looks history version (Ok snapshot) → Shows history version snapshot
+looked history None snapshot is = record { there = tt; tables = ap (λ (s : Snapshot). s.tables) is; number = ap (λ (s : Snapshot). s.version) is }
+looked history (Some asked) snapshot is = record { there = is.0; tables = ap (λ (s : Snapshot). s.tables) is.1; number = ap (λ (s : Snapshot). s.version) is.1 }
+
+pub asked_steps : (before after : Holding) (old : OwnSession) (queue : Queue) (was : Option Kept) (query : Query) (snapshot : Snapshot) (reply : ReplyData) (kept : Kept) (answer : Answer)
+    → Sees before after → own queue was ≡ old → IsTrue (is_exact query.method) → Looks after.held query.version (Ok snapshot)
+    → Solves snapshot.tables snapshot.version query reply kept → reply_of answer ≡ reply
+    → StepsOver before old (statements.Query query) after (own queue (Some kept)) answer
+asked_steps before after old queue was query snapshot reply kept answer sees is exact looks solves shown =
+    let history = after.held in
+    let shows = looked history query.version snapshot looks in
+    let on_tables : Solves (tables_of history query) snapshot.version query reply kept = subst (λ (tables : List Table). Solves tables snapshot.version query reply kept) shows.tables solves in
+    let on_version : Solves (tables_of history query) (version_of history query) query reply kept = subst (λ (n : ℕ). Solves (tables_of history query) n query reply kept) shows.number on_tables in
+    let here : Solves (tables_of history query) (version_of history query) query (reply_of answer) kept = subst (λ (r : ReplyData). Solves (tables_of history query) (version_of history query) query r kept) (sym shown) on_version in
+    let same = take_all history in
+    subst (λ (session : OwnSession). StepsOver before session (statements.Query query) after (own queue (Some kept)) answer) is
+    (λ body. asks (record {
+      query = query;
+      is = exactly query exact;
+      kept = kept;
+      becomes = becomes_over before after queue queue was (Some kept) sees;
+      there = rw same shows.there;
+      solves = rw same here;
+    }))
+
+pub query_refused : (before after : Holding) (old : OwnSession) (queue : Queue) (kept : Option Kept) (query : Query) (snapshot : Snapshot) (due : Refusal) (refusal : Option Told) (result : Result Answer AllocError)
+    → Sees before after → own queue kept ≡ old → IsTrue (is_exact query.method) → Looks after.held query.version (Ok snapshot)
+    → RefusesQuery snapshot.tables query due → IsToldAs due refusal → IfOk result (RefusedSo refusal)
+    → IfOk result (StepsOver before old (statements.Query query) after (own queue kept))
+query_refused before after old queue kept query snapshot due refusal result sees is exact looks why told shown =
+    let history = after.held in
+    let shows = looked history query.version snapshot looks in
+    let on_tables : RefusesQuery (tables_of history query) query due = subst (λ (tables : List Table). RefusesQuery tables query due) shows.tables why in
+    refused_steps before after old queue kept (statements.Query query) due refusal result sees is (in_query queue (statements.Query query) query due (exactly query exact) shows.there on_tables) told shown
+
+pub missed : (history : History) (query : Query) (version : Option ℕ) (asked low high : ℕ) → query.version ≡ version → Looks history version (Err (vault.Unkept asked low high)) → Misses history version (vault.Unkept asked low high)
+missed history query None asked low high is misses = misses
+missed history query (Some version) asked low high is misses = misses
+
+pub version_refused : (before after : Holding) (old : OwnSession) (queue : Queue) (kept : Option Kept) (query : Query) (asked low high : ℕ) (result : Result Answer AllocError)
+    → Sees before after → own queue kept ≡ old → IsTrue (is_exact query.method) → Looks after.held query.version (Err (vault.Unkept asked low high))
+    → IfOk result (RefusedSo (Some (Bind None (bindings.Unkept asked high low))))
+    → IfOk result (StepsOver before old (statements.Query query) after (own queue kept))
+version_refused before after old queue kept query asked low high result sees is exact looks shown =
+    let history = after.held in
+    let misses = missed history query query.version asked low high refl looks in
+    let due : Refusal = refusals.unkept None asked (length history) (replay history).low in
+    let told : cause (Bind None (bindings.Unkept asked high low)) ≡ due = ap (λ (h : ℕ). refusals.unkept None asked h low) misses.2 ∙ ap (refusals.unkept None asked (length history)) misses.1 in
+    refused_steps before after old queue kept (statements.Query query) due (Some (Bind None (bindings.Unkept asked high low))) result sees is
+    (in_version queue (statements.Query query) query asked (exactly query exact) misses.0 misses.3) told shown
 
 -- ---- the statement as it was matched
 
@@ -348,14 +325,82 @@ pub performs : (old new : SessionData) (t s : Statement) (body : Content) (resul
 performs old new t s body (Ok answer) is steps = subst (λ (u : Statement). Steps new.history old.state u body (reply_of answer) new.state) (sym is) (steps body)
 performs old new t s body (Err error) is steps = tt
 
-pub created_shown : (history : History) (table : List ℕ) (columns : List Column) (reply : ReplyData) (version : ℕ) → reply ≡ answers.created (version + 1) → version ≡ length history
-    → reply ≡ accepted (changes.Create table columns) (row_count (states_of history) (changes.Create table columns ∷ [])) (length history + 1)
-created_shown history table columns reply version is number = is ∙ ap (λ (n : ℕ). answers.created (n + 1)) number
+-- what isn't one of these is no turn and no query
+pub rest_none : (t : Statement) → ¬ (t ≡ statements.Begin) → ¬ (t ≡ statements.Commit) → ¬ (t ≡ statements.Rollback) → ((query : Query) → ¬ (t ≡ statements.Query query))
+    → (is_turn t ≡ false) × (query_of t ≡ None)
+rest_none statements.Begin no_begin no_commit no_rollback no_query = absurd (no_begin refl)
+rest_none statements.Commit no_begin no_commit no_rollback no_query = absurd (no_commit refl)
+rest_none statements.Rollback no_begin no_commit no_rollback no_query = absurd (no_rollback refl)
+rest_none (statements.Query query) no_begin no_commit no_rollback no_query = absurd (no_query query refl)
+rest_none (statements.Create table columns) no_begin no_commit no_rollback no_query = (refl, refl)
+rest_none (statements.Insert table rows) no_begin no_commit no_rollback no_query = (refl, refl)
+rest_none (statements.Load table bytes) no_begin no_commit no_rollback no_query = (refl, refl)
+rest_none (statements.Update table sets filter) no_begin no_commit no_rollback no_query = (refl, refl)
+rest_none (statements.Delete table filter) no_begin no_commit no_rollback no_query = (refl, refl)
+rest_none (statements.Partition table columns size radius) no_begin no_commit no_rollback no_query = (refl, refl)
+rest_none (statements.Vacuum version) no_begin no_commit no_rollback no_query = (refl, refl)
+rest_none statements.Certificate no_begin no_commit no_rollback no_query = (refl, refl)
 
-pub inserted_shown : (history : History) (table : List ℕ) (rows : List (List Lit)) (reply : ReplyData) (count version : ℕ) → reply ≡ answers.inserted count (version + 1)
-    → count ≡ length rows → count ≤ 2 ^ 64 - 1 → version ≡ length history
-    → reply ≡ accepted (changes.Insert table rows) (row_count (states_of history) (changes.Insert table rows ∷ [])) (length history + 1)
-inserted_shown history table rows reply count version is count_is few number =
-    let plus : length rows + 0 ≡ count = omega (arith, count_is) in
-    let least : min (length rows + 0) (2 ^ 64 - 1) ≡ count = ap (λ (n : ℕ). min n (2 ^ 64 - 1)) plus ∙ min-eq_left few in
-    is ∙ ap (λ (n : ℕ). answers.inserted count (n + 1)) number ∙ ap (λ (n : ℕ). answers.inserted n (length history + 1)) (sym least)
+-- ---- a change, whatever statement it is of
+
+-- each statement that is this change goes from one session to the other
+abbrev pub Changes : Holding → OwnSession → Change → Holding → OwnSession → Answer → Type 0
+Changes before old change after new answer = (t : Statement) → change_of t ≡ Some change → StepsOver before old t after new answer
+
+pub of_change : (before after : Holding) (old new : OwnSession) (t : Statement) (change : Change) (result : Result Answer AllocError)
+    → change_of t ≡ Some change → IfOk result (Changes before old change after new) → IfOk result (StepsOver before old t after new)
+of_change before after old new t change (Ok answer) is changes = changes t is
+of_change before after old new t change (Err error) is changes = tt
+
+pub queued_steps : (vault : Holding) (old : OwnSession) (kept : Option Kept) (queue new : List Change) (change : Change) (result : Result Answer AllocError)
+    → own (Some queue) kept ≡ old → IfOk result (λ (answer : Answer). reply_of answer ≡ answers.queued (length queue + 1)) → OnOk result (new ≡ queue ++ change ∷ [])
+    → IfOk result (Changes vault old change vault (own (Some new) kept))
+queued_steps vault old kept queue new change (Ok answer) is shown pushed =
+    λ t of. moves_by vault vault old (Some queue) (Some new) kept t answer (answers.queued (length queue + 1)) (sees_same vault) is
+    (subst (λ (held : List Change). Moves (Some queue) t (Some held) (answers.queued (length queue + 1))) (sym pushed) (queues t queue change of)) shown
+queued_steps vault old kept queue new change (Err error) is shown pushed = tt
+
+pub alone_accepted : (before after : Holding) (old : OwnSession) (queue : Queue) (kept : Option Kept) (change : Change) (begun list : List Change) (accepted : AcceptedAs) (committed : Committed)
+    → own queue kept ≡ old → old.queue ≡ None → begun ≡ [] → list ≡ begun ++ change ∷ []
+    → ((rows version : ℕ) → shown_as accepted rows version ≡ shown_to change rows version)
+    → Joins before after list committed → Changes before old change after (own queue kept) (Accepted accepted committed)
+alone_accepted before after old queue kept change begun list accepted committed is none empty pushed same comes =
+    let free : queue ≡ None = queue_is old queue None kept is none in
+    let one : list ≡ change ∷ [] = pushed ∙ ap (λ (start : List Change). start ++ change ∷ []) empty in
+    λ t of. subst (λ (q : Queue). StepsOver before old t after (own q kept) (Accepted accepted committed)) (sym free)
+    (accepted_steps before after old None kept t (change ∷ []) (shown_to change) accepted committed (queue_was old queue None kept is free) (alone t change of) same
+    (subst (λ (commit : List Change). Joins before after commit committed) one comes))
+
+pub alone_refused : (before after : Holding) (old : OwnSession) (queue : Queue) (kept : Option Kept) (change : Change) (begun list : List Change) (fault : CommitFault) (result : Result Answer AllocError)
+    → own queue kept ≡ old → old.queue ≡ None → begun ≡ [] → list ≡ begun ++ change ∷ []
+    → Declined before after list fault → IfOk result (RefusesCommit fault)
+    → IfOk result (Changes before old change after (own queue kept))
+alone_refused before after old queue kept change begun list fault (Ok answer) is none empty pushed comes told =
+    let free : queue ≡ None = queue_is old queue None kept is none in
+    let one : list ≡ change ∷ [] = pushed ∙ ap (λ (start : List Change). start ++ change ∷ []) empty in
+    λ t of. subst (λ (q : Queue). StepsOver before old t after (own q kept) answer) (sym free)
+    (commit_refused before after old None kept t (change ∷ []) (shown_to change) fault (Ok answer) (queue_was old queue None kept is free) (alone t change of)
+    (subst (λ (commit : List Change). Declined before after commit fault) one comes) told)
+alone_refused before after old queue kept change begun list fault (Err error) is none empty pushed comes told = tt
+
+-- ---- COMMIT
+
+pub commit_accepted : (before after : Holding) (old : OwnSession) (queue left : Queue) (kept : Option Kept) (list : List Change) (count : ℕ) (committed : Committed)
+    → own queue kept ≡ old → queue ≡ Some list → left ≡ None → count ≡ length list → Joins before after list committed
+    → StepsOver before old statements.Commit after (own left kept) (Accepted (Transaction count) committed)
+commit_accepted before after old queue left kept list count committed is some free counted comes =
+    subst (λ (q : Queue). StepsOver before old statements.Commit after (own q kept) (Accepted (Transaction count) committed)) (sym free)
+    (accepted_steps before after old (Some list) kept statements.Commit list (answers.committed (length list)) (Transaction count) committed (queue_was old queue (Some list) kept is some) (whole list)
+    (λ (rows version : ℕ). ap (λ (n : ℕ). answers.committed n rows version) counted) comes)
+
+pub commit_declined : (before after : Holding) (old : OwnSession) (queue : Queue) (kept : Option Kept) (list back : List Change) (fault : CommitFault) (result : Result Answer AllocError)
+    → own queue kept ≡ old → queue ≡ Some list → Declined before after list fault × (back ≡ list) → IfOk result (RefusesCommit fault)
+    → IfOk result (StepsOver before old statements.Commit after (own (Some back) kept))
+commit_declined before after old queue kept list back fault result is some comes told =
+    subst (λ (held : List Change). IfOk result (StepsOver before old statements.Commit after (own (Some held) kept))) (sym comes.1)
+    (commit_refused before after old (Some list) kept statements.Commit list (answers.committed (length list)) fault result (queue_was old queue (Some list) kept is some) (whole list) comes.0 told)
+
+-- the same session told otherwise
+pub same_before : (before after : Holding) (told old new : OwnSession) (change : Change) (result : Result Answer AllocError)
+    → told ≡ old → IfOk result (Changes before told change after new) → IfOk result (Changes before old change after new)
+same_before before after told old new change result is changes = subst (λ (session : OwnSession). IfOk result (Changes before session change after new)) is changes

@@ -1,15 +1,17 @@
 -- How a machine is at its beginning, and after each call of its driver.
-use Rattle.std.proofs.Common.{◌≡◌, ℕ, zero, suc, ◌+◌, ◌*◌, ◌-◌, ◌<◌, ◌≤◌, min, List, [], ◌∷◌, ◌++◌, length, take, drop, Option, None, Some, Result, Ok, Err, OnOk, inl, inr, refl, sym, ap, subst, ◌∙◌, append-nil, append_assoc, length-append, length-drop, take-append-drop, arith}
+use Rattle.std.proofs.Common.{◌≡◌, ℕ, zero, suc, ◌+◌, ◌*◌, ◌<◌, ◌≤◌, min, List, [], ◌∷◌, ◌++◌, length, take, drop, Option, None, Some, Result, Ok, Err, OnOk, inl, refl, sym, ap, subst, ◌∙◌, append-nil, append_assoc, length-append, length-drop, take-append-drop, arith}
 use Rattle.std.specs.declared.alloc.AllocError.{AllocError}
+use Rattle.paql_ast.specs.declared.statements.Statement.{Statement}
 use Rattle.session_proto.specs.Input.{Input, fed, owed, paid}
 use Rattle.session_proto.specs.Replies.{ReplyData}
 use Rattle.session_proto.specs.Sessions.{Frame, Begins, Stands}
 use Rattle.session_proto.specs.declared.framer.Awaited.{Awaited}
 use Rattle.session_proto.proofs.SessionSteps.{stands_at_first, stands_fed}
-use Rattle.paql_engine.specs.Conversation.{Stage, Conversation, MachineData, IsBetween, HasNoFrame, IsAtStage, IsServing, framing, parsing, reading, ended, size, body_awaited, debt, turns_at, turns_left, told_at, none, input_ended}
+use Rattle.version_store.specs.Vaults.{Holding}
+use Rattle.paql_engine.specs.Conversation.{Stage, Conversation, MachineData, OwnMachine, over, IsBetween, IsAtStage, IsServing, framing, parsing, reading, ended, size, body_awaited, debt, turns_at, turns_left, told_at, none, input_ended}
 use Rattle.paql_engine.specs.Ends.{Account, IsBegun, EndsSo}
 use Rattle.paql_engine.specs.Machine.{room_of, without_owed}
-use Rattle.paql_engine.specs.State.{opening}
+use Rattle.paql_engine.specs.State.{SessionState, OwnSession, opening, nothing_done}
 use Rattle.paql_engine.specs.Texts.{IsLoad}
 use Rattle.paql_engine.specs.Transcript.{texts}
 use Rattle.paql_engine.specs.Turns.{IsFree, IsHere, IsInputEnd, at_stage, stage_fed}
@@ -22,11 +24,28 @@ account_of bytes frames replies written = record { bytes = bytes; frames = frame
 
 -- ---- the beginning
 
-pub begins : IsServing [] [] (record {
-  session = record { history = []; state = opening };
-  talk = record { input = record { left = []; awaited = None }; waiting = None; owed = []; taken = 0; stage = framing };
-})
-begins = record {
+-- the same machine in another conversation
+abbrev pub with_talk : MachineData → Conversation → MachineData
+with_talk machine talk = record { session = machine.session; talk = talk }
+
+abbrev pub staged : MachineData → Stage → MachineData
+staged machine stage = with_talk machine (at_stage machine.talk stage)
+
+abbrev pub wrote_some : MachineData → ℕ → MachineData
+wrote_some machine count = with_talk machine (without_owed machine.talk count)
+
+-- what a machine keeps, by its parts
+abbrev pub own_machine : OwnSession → Input → Option Statement → List ℕ → ℕ → Stage → OwnMachine
+own_machine session input waiting owed taken stage = record {
+  session = session;
+  talk = record { input = input; waiting = waiting; owed = owed; taken = taken; stage = stage };
+}
+
+abbrev pub silent : Conversation
+silent = record { input = record { left = []; awaited = None }; waiting = None; owed = []; taken = 0; stage = framing }
+
+pub begins : (vault : Holding) → IsServing (opening vault) [] [] (over vault (record { session = nothing_done; talk = silent }))
+begins vault = record {
   frames = [];
   replies = [];
   serves = record {
@@ -37,13 +56,23 @@ begins = record {
   };
 }
 
+-- the frames of a framer are the first of the bytes
+begins_at : (bytes : List ℕ) (frames : List Frame) (before : Option (List ℕ)) (input : Input) → Stands IsLoad bytes frames before input
+    → (rest : List ℕ) × Begins IsLoad bytes frames rest
+begins_at bytes frames None input stands = (stands.rest, stands.begins)
+begins_at bytes frames (Some words) input stands = (stands.rest, stands.begins)
+
+-- without memory for it
+pub begun_without : EndsSo (account_of [] [] [] []) ends.Memory
+begun_without = (begins_at [] [] None (record { left = []; awaited = None }) (stands_at_first IsLoad), inl refl)
+
 -- ---- a machine that may frame
 
 -- with nothing owed
-pub record IsOpen (bytes written : List ℕ) (machine : MachineData) : Type 0 where
+pub record IsOpen (first : SessionState) (bytes written : List ℕ) (machine : MachineData) : Type 0 where
   pub frames : List Frame
   pub replies : List ReplyData
-  pub here : IsHere bytes written frames replies machine
+  pub here : IsHere first bytes written frames replies machine
   pub between : IsBetween (account_of bytes frames replies written) machine.talk
 
 paid_all : (bytes written : List ℕ) (frames : List Frame) (replies : List ReplyData) (owed : List ℕ) → owed ≡ [] → texts replies ≡ written ++ owed → written ≡ texts replies
@@ -56,8 +85,8 @@ open_at reading bytes written frames replies talk free quiet (paid, between, no_
 open_at (parsing words) bytes written frames replies talk free quiet at = absurd free
 open_at (ended end) bytes written frames replies talk free quiet at = absurd free
 
-pub opens : (bytes written : List ℕ) (machine : MachineData) → IsFree machine.talk.stage → machine.talk.owed ≡ [] → IsServing bytes written machine → IsOpen bytes written machine
-opens bytes written machine free quiet serving =
+pub opens : (first : SessionState) (bytes written : List ℕ) (machine : MachineData) → IsFree machine.talk.stage → machine.talk.owed ≡ [] → IsServing first bytes written machine → IsOpen first bytes written machine
+opens first bytes written machine free quiet serving =
     let at = open_at machine.talk.stage bytes written serving.frames serving.replies machine.talk free quiet serving.serves.stage in
     record {
       frames = serving.frames;
@@ -68,31 +97,25 @@ opens bytes written machine free quiet serving =
 
 -- ---- ends
 
--- the frames of a framer are the first of the bytes
-begins_at : (bytes : List ℕ) (frames : List Frame) (before : Option (List ℕ)) (input : Input) → Stands IsLoad bytes frames before input
-    → (rest : List ℕ) × Begins IsLoad bytes frames rest
-begins_at bytes frames None input stands = (stands.rest, stands.begins)
-begins_at bytes frames (Some words) input stands = (stands.rest, stands.begins)
-
 pub begun : (account : Account) (talk : Conversation) → IsBetween account talk → IsBegun account
 begun account talk between = begins_at account.bytes account.frames between.before talk.input between.stands
 
-pub ends_at : (bytes written : List ℕ) (frames : List Frame) (replies : List ReplyData) (machine : MachineData) (end : SessionEnd)
-    → IsHere bytes written frames replies machine → EndsSo (account_of bytes frames replies written) end → IsServing bytes written (at_stage machine (ended end))
-ends_at bytes written frames replies machine end here so = record {
+pub ends_at : (first : SessionState) (bytes written : List ℕ) (frames : List Frame) (replies : List ReplyData) (machine : MachineData) (end : SessionEnd)
+    → IsHere first bytes written frames replies machine → EndsSo (account_of bytes frames replies written) end → IsServing first bytes written (staged machine (ended end))
+ends_at first bytes written frames replies machine end here so = record {
   frames = frames;
   replies = replies;
   serves = record { counted = here.counted; few = here.few; transcript = here.transcript; stage = so };
 }
 
 -- what is said at the stage of a machine
-at_its_stage : (bytes written : List ℕ) (machine : MachineData) (stage : Stage) → machine.talk.stage ≡ stage → (serving : IsServing bytes written machine)
+at_its_stage : (first : SessionState) (bytes written : List ℕ) (machine : MachineData) (stage : Stage) → machine.talk.stage ≡ stage → (serving : IsServing first bytes written machine)
     → IsAtStage (account_of bytes serving.frames serving.replies written) machine.talk stage
-at_its_stage bytes written machine stage is serving =
+at_its_stage first bytes written machine stage is serving =
     subst (λ (s : Stage). IsAtStage (account_of bytes serving.frames serving.replies written) machine.talk s) is serving.serves.stage
 
 -- what is said of a stage is so of the same conversation at another one
-stage_moved : (account : Account) (machine : MachineData) (stage at : Stage) → IsAtStage account machine.talk at → IsAtStage account (at_stage machine stage).talk at
+stage_moved : (account : Account) (machine : MachineData) (stage at : Stage) → IsAtStage account machine.talk at → IsAtStage account (staged machine stage).talk at
 stage_moved account machine stage framing is = (is.0, record { before = is.1.before; stands = is.1.stands; waits = is.1.waits })
 stage_moved account machine stage (parsing words) is = (is.0, record { before = is.1.before; stands = is.1.stands; gives = is.1.gives; free = is.1.free })
 stage_moved account machine stage reading is =
@@ -100,9 +123,9 @@ stage_moved account machine stage reading is =
 stage_moved account machine stage (ended end) is = is
 
 -- the same machine at another stage
-restaged : (bytes written : List ℕ) (machine : MachineData) (stage : Stage) (serving : IsServing bytes written machine)
-    → IsAtStage (account_of bytes serving.frames serving.replies written) machine.talk stage → IsServing bytes written (at_stage machine stage)
-restaged bytes written machine stage serving at = record {
+restaged : (first : SessionState) (bytes written : List ℕ) (machine : MachineData) (stage : Stage) (serving : IsServing first bytes written machine)
+    → IsAtStage (account_of bytes serving.frames serving.replies written) machine.talk stage → IsServing first bytes written (staged machine stage)
+restaged first bytes written machine stage serving at = record {
   frames = serving.frames;
   replies = serving.replies;
   serves = record {
@@ -114,29 +137,29 @@ restaged bytes written machine stage serving at = record {
 }
 
 -- the source or the sink failed, or the input ended
-pub read_fails : (bytes written : List ℕ) (machine : MachineData) → machine.talk.stage ≡ reading → IsServing bytes written machine → IsServing bytes written (at_stage machine (ended ends.ReadFault))
-read_fails bytes written machine is serving =
-    let at = at_its_stage bytes written machine reading is serving in
-    restaged bytes written machine (ended ends.ReadFault) serving (at.2.rest, record { frames = at.2.are; written = at.0.0 }, at.2.not_long)
+pub read_fails : (first : SessionState) (bytes written : List ℕ) (machine : MachineData) → machine.talk.stage ≡ reading → IsServing first bytes written machine → IsServing first bytes written (staged machine (ended ends.ReadFault))
+read_fails first bytes written machine is serving =
+    let at = at_its_stage first bytes written machine reading is serving in
+    restaged first bytes written machine (ended ends.ReadFault) serving (at.2.rest, record { frames = at.2.are; written = at.0.0 }, at.2.not_long)
 
-pub write_fails : (bytes written : List ℕ) (machine : MachineData) → machine.talk.stage ≡ framing → IsServing bytes written machine → IsServing bytes written (at_stage machine (ended ends.WriteFault))
-write_fails bytes written machine is serving =
-    let at = at_its_stage bytes written machine framing is serving in
-    restaged bytes written machine (ended ends.WriteFault) serving (begun (account_of bytes serving.frames serving.replies written) machine.talk at.1, (machine.talk.owed, at.0))
+pub write_fails : (first : SessionState) (bytes written : List ℕ) (machine : MachineData) → machine.talk.stage ≡ framing → IsServing first bytes written machine → IsServing first bytes written (staged machine (ended ends.WriteFault))
+write_fails first bytes written machine is serving =
+    let at = at_its_stage first bytes written machine framing is serving in
+    restaged first bytes written machine (ended ends.WriteFault) serving (begun (account_of bytes serving.frames serving.replies written) machine.talk at.1, (machine.talk.owed, at.0))
 
-pub input_ends : (end : SessionEnd) (bytes written : List ℕ) (machine : MachineData) → machine.talk.stage ≡ reading → IsInputEnd machine.talk.input end
-    → IsServing bytes written machine → IsServing bytes written (at_stage machine (ended end))
-input_ends ends.Done bytes written machine is clean serving =
-    let at = at_its_stage bytes written machine reading is serving in
-    restaged bytes written machine (ended ends.Done) serving (at.2.rest, record { frames = at.2.are; written = at.0.0 }, at.2.not_long, at.2.clean.0 clean)
-input_ends ends.Truncated bytes written machine is unclean serving =
-    let at = at_its_stage bytes written machine reading is serving in
-    restaged bytes written machine (ended ends.Truncated) serving (at.2.rest, record { frames = at.2.are; written = at.0.0 }, at.2.not_long, λ clean. unclean (at.2.clean.1 clean))
-input_ends ends.ReadFault bytes written machine is never serving = absurd never
-input_ends ends.WriteFault bytes written machine is never serving = absurd never
-input_ends ends.Memory bytes written machine is never serving = absurd never
-input_ends ends.TooLong bytes written machine is never serving = absurd never
-input_ends ends.SessionLimit bytes written machine is never serving = absurd never
+pub input_ends : (end : SessionEnd) (first : SessionState) (bytes written : List ℕ) (machine : MachineData) → machine.talk.stage ≡ reading → IsInputEnd machine.talk.input end
+    → IsServing first bytes written machine → IsServing first bytes written (staged machine (ended end))
+input_ends ends.Done first bytes written machine is clean serving =
+    let at = at_its_stage first bytes written machine reading is serving in
+    restaged first bytes written machine (ended ends.Done) serving (at.2.rest, record { frames = at.2.are; written = at.0.0 }, at.2.not_long, at.2.clean.0 clean)
+input_ends ends.Truncated first bytes written machine is unclean serving =
+    let at = at_its_stage first bytes written machine reading is serving in
+    restaged first bytes written machine (ended ends.Truncated) serving (at.2.rest, record { frames = at.2.are; written = at.0.0 }, at.2.not_long, λ clean. unclean (at.2.clean.1 clean))
+input_ends ends.ReadFault first bytes written machine is never serving = absurd never
+input_ends ends.WriteFault first bytes written machine is never serving = absurd never
+input_ends ends.Memory first bytes written machine is never serving = absurd never
+input_ends ends.TooLong first bytes written machine is never serving = absurd never
+input_ends ends.SessionLimit first bytes written machine is never serving = absurd never
 
 -- the input ended
 pub told_ended : (end : SessionEnd) (input : Input) → IsInputEnd input end → told_at (ended end) ≡ input_ended
@@ -150,13 +173,13 @@ told_ended ends.SessionLimit input never = absurd never
 
 -- ---- bytes are written
 
-pub writes_some : (count : ℕ) (bytes written : List ℕ) (machine : MachineData) → machine.talk.stage ≡ framing → IsServing bytes written machine
-    → IsServing bytes (written ++ take count machine.talk.owed) (without_owed machine count)
-writes_some count bytes written machine is serving =
-    let at = at_its_stage bytes written machine framing is serving in
+pub writes_some : (count : ℕ) (first : SessionState) (bytes written : List ℕ) (machine : MachineData) → machine.talk.stage ≡ framing → IsServing first bytes written machine
+    → IsServing first bytes (written ++ take count machine.talk.owed) (wrote_some machine count)
+writes_some count first bytes written machine is serving =
+    let at = at_its_stage first bytes written machine framing is serving in
     let parts = sym (take-append-drop count machine.talk.owed) in
     let account = account_of bytes serving.frames serving.replies (written ++ take count machine.talk.owed) in
-    let now : IsAtStage account (without_owed machine count).talk framing = (
+    let now : IsAtStage account (wrote_some machine count).talk framing = (
       at.0 ∙ ap (λ (l : List ℕ). written ++ l) parts ∙ sym (append_assoc written (take count machine.talk.owed) (drop count machine.talk.owed)),
       record { before = at.1.before; stands = at.1.stands; waits = at.1.waits },
     ) in
@@ -167,7 +190,7 @@ writes_some count bytes written machine is serving =
         counted = serving.serves.counted;
         few = serving.serves.few;
         transcript = serving.serves.transcript;
-        stage = subst (λ (s : Stage). IsAtStage account (without_owed machine count).talk s) (sym is) now;
+        stage = subst (λ (s : Stage). IsAtStage account (wrote_some machine count).talk s) (sym is) now;
       };
     }
 
@@ -187,10 +210,10 @@ debt_less count (byte ∷ owed) = debt_one (drop count (byte ∷ owed))
     debt_one (b ∷ l) = omega arith
 
 -- with all of it written, fewer turns are left
-pub turns_written : (count : ℕ) (machine : MachineData) → machine.talk.stage ≡ framing → turns_left (without_owed machine count).talk ≤ turns_left machine.talk
+pub turns_written : (count : ℕ) (machine : MachineData) → machine.talk.stage ≡ framing → turns_left (wrote_some machine count).talk ≤ turns_left machine.talk
 turns_written count machine is =
-    let less : turns_at (without_owed machine count).talk framing ≤ turns_at machine.talk framing = omega (arith, debt_less count machine.talk.owed) in
-    subst (λ (s : Stage). turns_at (without_owed machine count).talk s ≤ turns_at machine.talk s) (sym is) less
+    let less : turns_at (wrote_some machine count).talk framing ≤ turns_at machine.talk framing = omega (arith, debt_less count machine.talk.owed) in
+    subst (λ (s : Stage). turns_at (wrote_some machine count).talk s ≤ turns_at machine.talk s) (sym is) less
 
 -- ---- bytes come
 
@@ -205,25 +228,25 @@ size_fed input piece =
     omega (arith, length-drop count left, length-append input.left piece, paid_awaited input.awaited count)
 
 -- the machine takes these bytes too
-abbrev pub fed_with : MachineData → List ℕ → Input → Stage → MachineData
-fed_with machine piece input stage = record {
-  session = machine.session;
-  talk = record {
-    input = input;
-    waiting = machine.talk.waiting;
-    owed = machine.talk.owed;
-    taken = machine.talk.taken + length piece;
-    stage = stage;
-  };
+abbrev pub fed_talk : Conversation → List ℕ → Input → Stage → Conversation
+fed_talk talk piece input stage = record {
+  input = input;
+  waiting = talk.waiting;
+  owed = talk.owed;
+  taken = talk.taken + length piece;
+  stage = stage;
 }
 
-few_more : (machine : MachineData) (piece : List ℕ) → length piece ≤ room_of machine → machine.talk.taken ≤ MAX_BYTES → machine.talk.taken + length piece ≤ MAX_BYTES
+abbrev pub fed_with : MachineData → List ℕ → Input → Stage → MachineData
+fed_with machine piece input stage = with_talk machine (fed_talk machine.talk piece input stage)
+
+few_more : (machine : MachineData) (piece : List ℕ) → length piece ≤ room_of machine.talk → machine.talk.taken ≤ MAX_BYTES → machine.talk.taken + length piece ≤ MAX_BYTES
 few_more machine piece room few = omega (arith, room, few)
 
-fed_ok : (bytes written piece : List ℕ) (machine : MachineData) (input : Input) → machine.talk.stage ≡ reading → length piece ≤ room_of machine → input ≡ fed machine.talk.input piece
-    → IsServing bytes written machine → IsServing (bytes ++ piece) written (fed_with machine piece input framing)
-fed_ok bytes written piece machine input is room comes serving =
-    let at = at_its_stage bytes written machine reading is serving in
+fed_ok : (first : SessionState) (bytes written piece : List ℕ) (machine : MachineData) (input : Input) → machine.talk.stage ≡ reading → length piece ≤ room_of machine.talk → input ≡ fed machine.talk.input piece
+    → IsServing first bytes written machine → IsServing first (bytes ++ piece) written (fed_with machine piece input framing)
+fed_ok first bytes written piece machine input is room comes serving =
+    let at = at_its_stage first bytes written machine reading is serving in
     record {
       frames = serving.frames;
       replies = serving.replies;
@@ -242,10 +265,10 @@ fed_ok bytes written piece machine input is room comes serving =
       };
     }
 
-fed_nothing : (bytes written piece : List ℕ) (machine : MachineData) (input : Input) → machine.talk.stage ≡ reading → length piece ≤ room_of machine
-    → IsServing bytes written machine → IsServing (bytes ++ piece) written (fed_with machine piece input (ended ends.Memory))
-fed_nothing bytes written piece machine input is room serving =
-    let at = at_its_stage bytes written machine reading is serving in
+fed_nothing : (first : SessionState) (bytes written piece : List ℕ) (machine : MachineData) (input : Input) → machine.talk.stage ≡ reading → length piece ≤ room_of machine.talk
+    → IsServing first bytes written machine → IsServing first (bytes ++ piece) written (fed_with machine piece input (ended ends.Memory))
+fed_nothing first bytes written piece machine input is room serving =
+    let at = at_its_stage first bytes written machine reading is serving in
     let stands = stands_fed IsLoad bytes piece serving.frames at.1.before machine.talk.input at.1.stands in
     record {
       frames = serving.frames;
@@ -258,27 +281,27 @@ fed_nothing bytes written piece machine input is room serving =
       };
     }
 
-pub feeds : (bytes written piece : List ℕ) (machine : MachineData) (input : Input) (done : Result (Unit {0}) AllocError) → machine.talk.stage ≡ reading → length piece ≤ room_of machine
-    → OnOk done (input ≡ fed machine.talk.input piece) → IsServing bytes written machine → IsServing (bytes ++ piece) written (fed_with machine piece input (stage_fed done))
-feeds bytes written piece machine input (Ok done) is room comes serving = fed_ok bytes written piece machine input is room comes serving
-feeds bytes written piece machine input (Err fault) is room comes serving = fed_nothing bytes written piece machine input is room serving
+pub feeds : (first : SessionState) (bytes written piece : List ℕ) (machine : MachineData) (input : Input) (done : Result (Unit {0}) AllocError) → machine.talk.stage ≡ reading → length piece ≤ room_of machine.talk
+    → OnOk done (input ≡ fed machine.talk.input piece) → IsServing first bytes written machine → IsServing first (bytes ++ piece) written (fed_with machine piece input (stage_fed done))
+feeds first bytes written piece machine input (Ok done) is room comes serving = fed_ok first bytes written piece machine input is room comes serving
+feeds first bytes written piece machine input (Err fault) is room comes serving = fed_nothing first bytes written piece machine input is room serving
 
 -- the number of turns that are left falls
-turns_less : (piece : List ℕ) (machine : MachineData) (input : Input) (done : Result (Unit {0}) AllocError) → machine.talk.stage ≡ reading → length piece ≤ room_of machine → 0 < length piece
-    → OnOk done (input ≡ fed machine.talk.input piece) → turns_left (fed_with machine piece input (stage_fed done)).talk < turns_left machine.talk
-turns_less piece machine input (Ok done) is room some comes =
-    let fewer : turns_at (fed_with machine piece (fed machine.talk.input piece) framing).talk framing < turns_at machine.talk reading = omega (arith, size_fed machine.talk.input piece, room, some) in
-    let all = subst (λ (i : Input). turns_at (fed_with machine piece i framing).talk framing < turns_at machine.talk reading) (sym comes) fewer in
-    subst (λ (s : Stage). turns_at (fed_with machine piece input framing).talk framing < turns_at machine.talk s) (sym is) all
-turns_less piece machine input (Err fault) is room some comes =
-    let fewer : 0 < turns_at machine.talk reading = omega arith in
-    subst (λ (s : Stage). 0 < turns_at machine.talk s) (sym is) fewer
+turns_less : (piece : List ℕ) (talk : Conversation) (input : Input) (done : Result (Unit {0}) AllocError) → talk.stage ≡ reading → length piece ≤ room_of talk → 0 < length piece
+    → OnOk done (input ≡ fed talk.input piece) → turns_left (fed_talk talk piece input (stage_fed done)) < turns_left talk
+turns_less piece talk input (Ok done) is room some comes =
+    let fewer : turns_at (fed_talk talk piece (fed talk.input piece) framing) framing < turns_at talk reading = omega (arith, size_fed talk.input piece, room, some) in
+    let all = subst (λ (i : Input). turns_at (fed_talk talk piece i framing) framing < turns_at talk reading) (sym comes) fewer in
+    subst (λ (s : Stage). turns_at (fed_talk talk piece input framing) framing < turns_at talk s) (sym is) all
+turns_less piece talk input (Err fault) is room some comes =
+    let fewer : 0 < turns_at talk reading = omega arith in
+    subst (λ (s : Stage). 0 < turns_at talk s) (sym is) fewer
 
-pub turns_fed : (piece : List ℕ) (machine same : MachineData) (input : Input) (done : Result (Unit {0}) AllocError) → machine ≡ same → same.talk.stage ≡ reading → length piece ≤ room_of same → 0 < length piece
-    → OnOk done (input ≡ fed machine.talk.input piece) → turns_left (fed_with machine piece input (stage_fed done)).talk < turns_left same.talk
+pub turns_fed : (piece : List ℕ) (machine same : OwnMachine) (input : Input) (done : Result (Unit {0}) AllocError) → machine ≡ same → same.talk.stage ≡ reading → length piece ≤ room_of same.talk → 0 < length piece
+    → OnOk done (input ≡ fed machine.talk.input piece) → turns_left (fed_talk machine.talk piece input (stage_fed done)) < turns_left same.talk
 turns_fed piece machine same input done e is room some comes =
-    subst (λ (m : MachineData). turns_left (fed_with machine piece input (stage_fed done)).talk < turns_left m.talk) e
-    (turns_less piece machine input done (subst (λ (m : MachineData). m.talk.stage ≡ reading) (sym e) is) (subst (λ (m : MachineData). length piece ≤ room_of m) (sym e) room) some comes)
+    subst (λ (m : OwnMachine). turns_left (fed_talk machine.talk piece input (stage_fed done)) < turns_left m.talk) e
+    (turns_less piece machine.talk input done (subst (λ (m : OwnMachine). m.talk.stage ≡ reading) (sym e) is) (subst (λ (m : OwnMachine). length piece ≤ room_of m.talk) (sym e) room) some comes)
 
 pub told_fed : (done : Result (Unit {0}) AllocError) → told_at (stage_fed done) ≡ none
 told_fed (Ok done) = refl
@@ -287,9 +310,9 @@ told_fed (Err fault) = refl
 -- ---- a stage that may frame
 
 -- what is owed is written first
-pub stays_framing : (bytes written : List ℕ) (machine : MachineData) → IsFree machine.talk.stage → IsServing bytes written machine → IsServing bytes written (at_stage machine framing)
-stays_framing bytes written machine free serving =
-    restaged bytes written machine framing serving (framing_at machine.talk.stage bytes written serving.frames serving.replies machine.talk free serving.serves.stage)
+pub stays_framing : (first : SessionState) (bytes written : List ℕ) (machine : MachineData) → IsFree machine.talk.stage → IsServing first bytes written machine → IsServing first bytes written (staged machine framing)
+stays_framing first bytes written machine free serving =
+    restaged first bytes written machine framing serving (framing_at machine.talk.stage bytes written serving.frames serving.replies machine.talk free serving.serves.stage)
   where
     framing_at : (stage : Stage) (bytes written : List ℕ) (frames : List Frame) (replies : List ReplyData) (talk : Conversation) → IsFree stage
         → IsAtStage (account_of bytes frames replies written) talk stage → IsAtStage (account_of bytes frames replies written) talk framing
@@ -300,7 +323,7 @@ stays_framing bytes written machine free serving =
     framing_at (ended end) bytes written frames replies talk free at = absurd free
 
 -- memory ran out for the tree of a text
-pub parse_fails : (bytes written words : List ℕ) (machine : MachineData) → machine.talk.stage ≡ parsing words → IsServing bytes written machine → IsServing bytes written (at_stage machine (ended ends.Memory))
-parse_fails bytes written words machine is serving =
-    let at = at_its_stage bytes written machine (parsing words) is serving in
-    restaged bytes written machine (ended ends.Memory) serving ((at.1.stands.rest, at.1.stands.begins), inl at.0.0)
+pub parse_fails : (first : SessionState) (bytes written words : List ℕ) (machine : MachineData) → machine.talk.stage ≡ parsing words → IsServing first bytes written machine → IsServing first bytes written (staged machine (ended ends.Memory))
+parse_fails first bytes written words machine is serving =
+    let at = at_its_stage first bytes written machine (parsing words) is serving in
+    restaged first bytes written machine (ended ends.Memory) serving ((at.1.stands.rest, at.1.stands.begins), inl at.0.0)

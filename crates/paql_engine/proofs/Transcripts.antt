@@ -5,8 +5,8 @@ use Rattle.session_proto.specs.Replies.{ReplyData, reply_text}
 use Rattle.session_proto.specs.Sessions.{Frame}
 use Rattle.version_store.specs.Histories.{History}
 use Rattle.paql_engine.specs.State.{SessionState}
-use Rattle.paql_engine.specs.Transcript.{Transcript, Answers, Performs, refuses, performs, lacks, texts}
-use Rattle.paql_engine.proofs.Histories.{longer}
+use Rattle.paql_engine.specs.Transcript.{Transcript, Answers, refuses, performs, lacks, texts}
+use Rattle.paql_engine.proofs.Histories.{longer, becomes_longer}
 
 -- one more frame is answered
 pub transcript_more : {S : Type 0} (OneFrame : S → Frame → ReplyData → S → Type 0) (old mid new : S) (frames : List Frame) (replies : List ReplyData) (frame : Frame) (reply : ReplyData)
@@ -35,7 +35,10 @@ answers_longer history more old frame reply new (performs row) = performs (recor
   is = row.is;
   steps = longer history more old new row.statement frame.content reply row.steps;
 })
-answers_longer history more old frame reply new (lacks row) = lacks row
+answers_longer history more old frame reply new (lacks row) = lacks (record {
+  shown = row.shown;
+  stays = becomes_longer history more old old.queue old.kept new row.stays;
+})
 
 pub transcript_longer : (history more : History) (old new : SessionState) (frames : List Frame) (replies : List ReplyData)
     → Transcript (Answers history) old frames replies new → Transcript (Answers (history ++ more)) old frames replies new

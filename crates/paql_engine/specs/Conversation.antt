@@ -9,7 +9,8 @@ use Rattle.session_proto.specs.Replies.{ReplyData}
 use Rattle.session_proto.specs.Sessions.{Frame, AreFrames, Stands, EndsClean, IsOverlong}
 use Rattle.session_proto.specs.declared.framer.Awaited.{Awaited}
 use Rattle.paql_engine.specs.Ends.{Account, EndsSo}
-use Rattle.paql_engine.specs.State.{SessionData, opening}
+use Rattle.version_store.specs.Vaults.{Holding}
+use Rattle.paql_engine.specs.State.{SessionState, SessionData, OwnSession, session_over}
 use Rattle.paql_engine.specs.Texts.{IsLoad}
 use Rattle.paql_engine.specs.Transcript.{Transcript, Answers, texts}
 use Rattle.paql_engine.specs.declared.ending.SessionEnd.{SessionEnd}
@@ -33,10 +34,26 @@ pub record Conversation : Type 0 where
   pub taken : ℕ
   pub stage : Stage
 
--- a conversation with its session
+-- what a machine itself keeps
+pub record OwnMachine : Type 0 where
+  pub session : OwnSession
+  pub talk : Conversation
+
+-- the same machine in another conversation
+abbrev pub talks : OwnMachine → Conversation → OwnMachine
+talks machine talk = record { session = machine.session; talk = talk }
+
+-- a conversation with its session, over a history
 pub record MachineData : Type 0 where
   pub session : SessionData
   pub talk : Conversation
+
+-- a machine over what its vault holds
+abbrev pub over : Holding → OwnMachine → MachineData
+over vault machine = record {
+  session = session_over vault machine.session;
+  talk = machine.talk;
+}
 
 -- ---- how a conversation is, whatever one frame does to the state of its session
 
@@ -95,11 +112,12 @@ pub record Serves {S : Type 0} (OneFrame : S → Frame → ReplyData → S
 
 -- ---- how a machine is
 
--- It took these bytes, and these bytes of replies were written.
-pub record IsServing (bytes written : List ℕ) (machine : MachineData) : Type 0 where
+-- From this state on it took these bytes, and these bytes of replies were written.
+pub record IsServing (first : SessionState) (bytes written : List ℕ)
+    (machine : MachineData) : Type 0 where
   pub frames : List Frame
   pub replies : List ReplyData
-  pub serves : Serves (Answers machine.session.history) opening machine.session.state
+  pub serves : Serves (Answers machine.session.history) first machine.session.state
       (record { bytes = bytes; frames = frames; replies = replies; written = written }) machine.talk
 
 -- ---- how much is left to do
@@ -145,5 +163,5 @@ told_at (ended ends.ReadFault) = read_failed
 told_at (ended ends.WriteFault) = write_failed
 told_at stage = none
 
-abbrev pub told : MachineData → Outside
-told machine = told_at machine.talk.stage
+abbrev pub told : Conversation → Outside
+told talk = told_at talk.stage

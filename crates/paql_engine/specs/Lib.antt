@@ -1,9 +1,13 @@
 pub mod State
 pub mod Performed
 pub mod Refused
+pub mod Queries
+pub mod Loading
 pub mod Steps
 pub mod Replied
 pub mod Showing
+pub mod Preparing
+pub mod LoadSteps
 pub mod Texts
 pub mod Transcript
 pub mod Ends

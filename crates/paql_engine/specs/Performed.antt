@@ -1,7 +1,6 @@
--- Which statements are performed so far, by their trees: CREATE TABLE, INSERT, and queries of the
--- last version that are solved exactly. A CREATE TABLE without a column, which no text has, is not
--- performed.
-use Rattle.std.specs.Prelude.{ℕ, Bool, true, false, ◌&&◌, List, [], ◌∷◌, Option, Some, None, if◌then◌else◌}
+-- Which statements are performed so far, by their trees: all but CERTIFICATE and queries by
+-- SKETCHREFINE. A CREATE TABLE without a column, which no text has, is not performed.
+use Rattle.std.specs.Prelude.{Bool, true, false, [], ◌∷◌, Option, Some, None, if◌then◌else◌}
 use Rattle.paql_ast.specs.declared.queries.Method.{Method}
 use Rattle.paql_ast.specs.declared.queries.Method.TheVariants.{Direct, SketchRefine}
 use Rattle.paql_ast.specs.declared.queries.Query.{Query}
@@ -16,22 +15,32 @@ change_of (statements.Create table []) = None
 change_of (statements.Create table (column ∷ columns)) =
     Some (changes.Create table (column ∷ columns))
 change_of (statements.Insert table rows) = Some (changes.Insert table rows)
+change_of (statements.Update table sets filter) = Some (changes.Update table sets filter)
+change_of (statements.Delete table filter) = Some (changes.Delete table filter)
+change_of (statements.Partition table columns size radius) =
+    Some (changes.Partition table columns size radius)
+change_of (statements.Vacuum version) = Some (changes.Vacuum version)
 change_of t = None
 
--- no version is asked for, and the method is exact
+-- the method is exact
 abbrev pub is_exact : Option Method → Bool
 is_exact None = true
 is_exact (Some Direct) = true
 is_exact (Some SketchRefine) = false
 
-abbrev pub is_last : Option ℕ → Bool
-is_last None = true
-is_last (Some version) = false
-
-abbrev pub is_performed : Query → Bool
-is_performed query = is_last query.version && is_exact query.method
-
 -- the query that a statement is
 abbrev pub query_of : Statement → Option Query
-query_of (statements.Query query) = if is_performed query then Some query else None
+query_of (statements.Query query) = if is_exact query.method then Some query else None
 query_of t = None
+
+-- the statement is a LOAD
+abbrev pub is_load : Statement → Bool
+is_load (statements.Load table bytes) = true
+is_load t = false
+
+-- the statement opens or closes a transaction
+abbrev pub is_turn : Statement → Bool
+is_turn statements.Begin = true
+is_turn statements.Commit = true
+is_turn statements.Rollback = true
+is_turn t = false

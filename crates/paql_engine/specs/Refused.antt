@@ -1,5 +1,5 @@
 -- Why a change or a query is refused, as replies tell it.
-use Rattle.std.specs.Prelude.{ℕ, List, [], Option, Some, None}
+use Rattle.std.specs.Prelude.{ℕ, List, [], Option, Some}
 use Rattle.paql_bind.specs.declared.faults.Refusal.{Refusal as Fault}
 use Rattle.paql_bind.specs.declared.faults.Refusal.TheVariants as faults
 use Rattle.version_store.specs.declared.faults.CommitFault.{CommitFault}
@@ -71,4 +71,5 @@ name_in (refusals.bad_scale change name) = name
 name_in (refusals.bad_cell change name row) = name
 name_in (refusals.out_of_range change name row) = name
 name_in (refusals.text_too_long change name row) = name
+name_in (refusals.bad_field name number) = name
 name_in cause = []

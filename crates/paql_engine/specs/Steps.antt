@@ -1,27 +1,35 @@
 -- What one statement does to a session, and its reply. The history is that after the statement; a
 -- step looks only at the commits of it that the session has seen then.
-use Rattle.std.specs.Prelude.{◌≡◌, ◌≤◌, ℕ, suc, List, [], ◌∷◌, ◌++◌, length, take, Option, Some, None, slice_get, unwrap_or}
+use Rattle.std.specs.Prelude.{◌≡◌, ◌⊎◌, ◌<◌, ◌≤◌, ℕ, suc, ◌+◌, false, List, [], ◌∷◌, ◌++◌}
+use Rattle.std.specs.Prelude.{length, Option, Some, None, Ok, slice_get, unwrap_or}
 use Rattle.std.specs.Str.{IsUtf8}
 use Rattle.paql_ast.specs.declared.queries.Query.{Query}
 use Rattle.paql_ast.specs.declared.statements.Statement.{Statement}
-use Rattle.paql_bind.specs.Faults.{IsFirst}
-use Rattle.paql_bind.specs.Queries.{query_faults, bound_query_of, parts_of}
-use Rattle.paql_bind.specs.declared.faults.Refusal.{Refusal as Fault}
-use Rattle.bound_query.specs.declared.queries.BoundQuery.{BoundQuery}
-use Rattle.version_store.specs.Histories.{History, states_of, commit_faults, row_count}
-use Rattle.snapshots.specs.States.{State, schemas, rows_named}
+use Rattle.paql_ast.specs.declared.statements.Statement.TheVariants as statements
+use Rattle.version_store.specs.Answers.{state_at}
+use Rattle.version_store.specs.Histories.{Commit, History, states_of, commit_faults, row_count}
+use Rattle.version_store.specs.Histories.{replay}
+use Rattle.schema_types.specs.declared.Column.{Column}
+use Rattle.schema_types.specs.declared.Lit.{Lit}
+use Rattle.snapshots.specs.declared.tables.Table.{Table}
 use Rattle.version_store.specs.declared.changes.Change.{Change}
-use Rattle.version_store.specs.declared.faults.CommitFault.{CommitFault}
 use Rattle.version_store.specs.declared.changes.Change.TheVariants as changes
-use Rattle.query_answer.specs.Answers.{Rows, HasProgram, AnswersQuery, FormRefuses}
+use Rattle.version_store.specs.declared.faults.CommitFault.{CommitFault}
 use Rattle.query_answer.specs.declared.kept.Kept.{Kept}
 use Rattle.session_proto.specs.Input.{Content}
 use Rattle.session_proto.specs.Answers as answers
+use Rattle.session_proto.specs.Refusals as refusals
 use Rattle.session_proto.specs.Refusals.{Refusal, refusal_of, not_built}
 use Rattle.session_proto.specs.Replies.{ReplyData}
-use Rattle.paql_engine.specs.Performed.{change_of, query_of}
-use Rattle.paql_engine.specs.Refused.{binding_cause, commit_cause, name_in}
-use Rattle.paql_engine.specs.State.{SessionState, seen_of, tables_seen}
+use Rattle.paql_engine.specs.Loading.{columns_in, Gives, RefusesLoad, insert_of}
+use Rattle.paql_engine.specs.Performed.{change_of, query_of, is_load, is_turn}
+use Rattle.paql_engine.specs.Queries.{Solves, RefusesQuery}
+use Rattle.paql_engine.specs.Refused.{commit_cause, name_in}
+use Rattle.paql_engine.specs.State.{SessionState, seen_of}
+
+-- the changes of the open transaction, if one is open
+abbrev pub Queue : Type 0
+Queue = Option (List Change)
 
 -- ---- what becomes of the session
 
@@ -30,51 +38,28 @@ pub record Sees (history : History) (old new : SessionState) : Type 0 where
   pub within : new.seen ≤ length history
   pub later : old.seen ≤ new.seen
 
--- The change alone is the last commit that the session has seen, after those `before`.
-pub record Commits (history before : History) (old : SessionState) (change : Change)
+-- The commit is the last one that the session has seen, after those `before`, of which others may
+-- have been made since; it is its own, and no transaction is open after it.
+pub record Commits (history before : History) (old : SessionState) (commit : Commit)
     (new : SessionState) : Type 0 where
   pub sees : Sees history old new
-  pub last : seen_of history new ≡ before ++ (change ∷ []) ∷ []
+  pub last : seen_of history new ≡ before ++ commit ∷ []
   pub number : new.seen ≡ suc (length before)
-  pub next : new.seen ≡ suc old.seen
-  pub queue : new.queue ≡ old.queue
+  pub rose : old.seen < new.seen
+  pub own : new.own ≡ suc old.own
+  pub queue : new.queue ≡ None
   pub kept : new.kept ≡ old.kept
 
--- nothing was committed, and this is kept of the query
-pub record Keeps (history : History) (old : SessionState) (proof : Kept)
+-- the session committed nothing, and the queue and what is kept are these
+pub record Becomes (history : History) (old : SessionState) (held : Queue) (proof : Option Kept)
     (new : SessionState) : Type 0 where
   pub sees : Sees history old new
-  pub queue : new.queue ≡ old.queue
-  pub same : new.seen ≡ old.seen
-  pub kept : new.kept ≡ Some proof
+  pub own : new.own ≡ old.own
+  pub queue : new.queue ≡ held
+  pub kept : new.kept ≡ proof
 
--- nothing was committed, and what is kept is as before
-pub record Stays (history : History) (old new : SessionState) : Type 0 where
-  pub sees : Sees history old new
-  pub same : new.seen ≡ old.seen
-  pub queue : new.queue ≡ old.queue
-  pub kept : new.kept ≡ old.kept
-
--- ---- queries
-
--- the rows of the table that a query names
-abbrev pub rows_asked : State → Query → Rows
-rows_asked tables query = unwrap_or (rows_named query.table tables.tables) []
-
-abbrev pub faults_of : State → Query → List Fault
-faults_of tables query = query_faults (schemas tables) query
-
--- this is what the query is bound to
-abbrev pub IsBoundTo : State → Query → BoundQuery → Type 0
-IsBoundTo tables query bound = parts_of bound ≡ bound_query_of (schemas tables) query
-
--- why a query is refused: the first fault of its names and numbers, or else why it has no program
-pub data RefusesQuery (tables : State) (query : Query) : Refusal → Type 0 where
-  binding : (fault : Fault) → IsFirst (faults_of tables query) fault
-      → RefusesQuery tables query (binding_cause None fault)
-  form : (bound : BoundQuery) (cause : Refusal) → faults_of tables query ≡ []
-      → IsBoundTo tables query bound → FormRefuses bound (rows_asked tables query) cause
-      → RefusesQuery tables query cause
+abbrev pub Stays : History → SessionState → SessionState → Type 0
+Stays history old new = Becomes history old old.queue old.kept new
 
 -- ---- changes
 
@@ -87,70 +72,155 @@ accepted (changes.Delete table filter) rows version = answers.deleted rows versi
 accepted (changes.Partition table columns size radius) rows version = answers.partitioned version
 accepted (changes.Vacuum low) rows version = answers.vacuumed low version
 
--- why a change alone is refused after a history: the first fault of its commit
-pub record RefusesChange (history : History) (change : Change) (cause : Refusal) : Type 0 where
-  pub fault : CommitFault
-  pub first : slice_get (commit_faults (states_of history) (change ∷ [])) 0 ≡ Some fault
-  pub is : cause ≡ commit_cause fault
+-- The commit that a statement is, with the open transaction, and the reply to it where it is
+-- accepted, by the rows and the version: a change outside a transaction, or COMMIT.
+pub data Makes : Queue → Statement → Commit → (ℕ → ℕ → ReplyData) → Type 0 where
+  alone : (t : Statement) (change : Change) → change_of t ≡ Some change
+      → Makes None t (change ∷ []) (accepted change)
+  whole : (commit : Commit)
+      → Makes (Some commit) statements.Commit commit (answers.committed (length commit))
+
+-- The statements that change the queue alone, with the queue after them and the reply: BEGIN,
+-- ROLLBACK, and a change in a transaction, which isn't looked at before COMMIT.
+pub data Moves : Queue → Statement → Queue → ReplyData → Type 0 where
+  begins : Moves None statements.Begin (Some []) answers.begun
+  rolls_back : (queue : List Change)
+      → Moves (Some queue) statements.Rollback None answers.rolled_back
+  queues : (t : Statement) (queue : List Change) (change : Change) → change_of t ≡ Some change
+      → Moves (Some queue) t (Some (queue ++ change ∷ [])) (answers.queued (length queue + 1))
+
+-- ---- queries
+
+-- the version that a query reads: the one that it asks for, or the last
+abbrev pub version_of : History → Query → ℕ
+version_of history query = unwrap_or query.version (length history)
+
+abbrev pub tables_of : History → Query → List Table
+tables_of history query = (state_at history (version_of history query)).tables
+
+-- a version that is asked for is kept
+pub record Reaches (history : History) (version : ℕ) : Type 0 where
+  pub low : (replay history).low ≤ version
+  pub high : version ≤ length history
+
+abbrev pub IsThere : History → Option ℕ → Type 0
+IsThere history None = Unit {0}
+IsThere history (Some asked) = Reaches history asked
+
+-- ---- refusals
+
+-- why a statement is refused, by the commits that the session has seen and the open transaction
+pub data Refuses (history : History) : Queue → Statement → Refusal → Type 0 where
+  at_begin : (queue : List Change)
+      → Refuses history (Some queue) statements.Begin refusals.in_transaction
+  at_commit : Refuses history None statements.Commit refusals.not_in_transaction
+  at_rollback : Refuses history None statements.Rollback refusals.not_in_transaction
+  -- the first fault of its commit
+  in_commit : (queue : Queue) (t : Statement) (commit : Commit) (shows : ℕ → ℕ → ReplyData)
+      (fault : CommitFault) → Makes queue t commit shows
+      → slice_get (commit_faults (states_of history) commit) 0 ≡ Some fault
+      → Refuses history queue t (commit_cause fault)
+  -- a query of a version that isn't kept, or isn't there
+  in_version : (queue : Queue) (t : Statement) (query : Query) (asked : ℕ)
+      → query_of t ≡ Some query → query.version ≡ Some asked
+      → (asked < (replay history).low) ⊎ (length history < asked)
+      → Refuses history queue t
+      (refusals.unkept None asked (length history) (replay history).low)
+  -- a query of a version that is there
+  in_query : (queue : Queue) (t : Statement) (query : Query) (cause : Refusal)
+      → query_of t ≡ Some query → IsThere history query.version
+      → RefusesQuery (tables_of history query) query cause → Refuses history queue t cause
+
+-- The statement is none that is performed; or it is refused for a name that is no text, which no
+-- statement of a text has.
+pub data IsOther (history : History) (queue : Queue) (t : Statement) : Type 0 where
+  other : change_of t ≡ None → query_of t ≡ None → is_load t ≡ false → is_turn t ≡ false
+      → IsOther history queue t
+  nameless : (cause : Refusal) → Refuses history queue t cause → ¬ IsUtf8 (name_in cause)
+      → IsOther history queue t
 
 -- ---- the rows
 
 pub record Accepts (history : History) (old : SessionState) (t : Statement) (reply : ReplyData)
     (new : SessionState) : Type 0 where
-  pub change : Change
-  pub is : change_of t ≡ Some change
+  pub commit : Commit
+  pub shows : ℕ → ℕ → ReplyData
+  pub makes : Makes old.queue t commit shows
   pub before : History
-  pub commits : Commits history before old change new
-  pub good : commit_faults (states_of before) (change ∷ []) ≡ []
-  pub shown : reply
-      ≡ accepted change (row_count (states_of before) (change ∷ [])) new.seen
+  pub commits : Commits history before old commit new
+  pub good : commit_faults (states_of before) commit ≡ []
+  pub shown : reply ≡ shows (row_count (states_of before) commit) new.seen
+
+pub record Turns (history : History) (old : SessionState) (t : Statement) (reply : ReplyData)
+    (new : SessionState) : Type 0 where
+  pub queue : Queue
+  pub moves : Moves old.queue t queue reply
+  pub becomes : Becomes history old queue old.kept new
 
 pub record Asks (history : History) (old : SessionState) (t : Statement) (reply : ReplyData)
     (new : SessionState) : Type 0 where
   pub query : Query
   pub is : query_of t ≡ Some query
   pub kept : Kept
-  pub keeps : Keeps history old kept new
-  pub good : faults_of (tables_seen history new) query ≡ []
-  pub bound : BoundQuery
-  pub binds : IsBoundTo (tables_seen history new) query bound
-  pub has : HasProgram bound (rows_asked (tables_seen history new) query)
-  pub answers : AnswersQuery bound (rows_asked (tables_seen history new) query) new.seen reply kept
-
--- this is refused of a statement that is performed, at these tables
-pub data Refuses (history : History) (tables : State) (t : Statement) (cause : Refusal)
-    : Type 0 where
-  change : (change : Change) → change_of t ≡ Some change → RefusesChange history change cause
-      → Refuses history tables t cause
-  query : (query : Query) → query_of t ≡ Some query → RefusesQuery tables query cause
-      → Refuses history tables t cause
+  pub becomes : Becomes history old old.queue (Some kept) new
+  pub there : IsThere (seen_of history new) query.version
+  pub solves : Solves (tables_of (seen_of history new) query)
+      (version_of (seen_of history new) query) query reply kept
 
 pub record IsRefused (history : History) (old : SessionState) (t : Statement)
     (reply : ReplyData) (new : SessionState) : Type 0 where
   pub stays : Stays history old new
   pub cause : Refusal
-  pub why : Refuses (seen_of history new) (tables_seen history new) t cause
+  pub why : Refuses (seen_of history new) old.queue t cause
   pub shown : reply ≡ refusal_of cause
-
--- The statement is no change and no query that is performed; or it is refused for a name that is
--- no text, which no statement of a text has.
-pub data IsOther (history : History) (tables : State) (t : Statement) : Type 0 where
-  other : change_of t ≡ None → query_of t ≡ None → IsOther history tables t
-  nameless : (cause : Refusal) → Refuses history tables t cause → ¬ IsUtf8 (name_in cause)
-      → IsOther history tables t
 
 pub record IsNotBuilt (history : History) (old : SessionState) (t : Statement)
     (reply : ReplyData) (new : SessionState) : Type 0 where
   pub stays : Stays history old new
-  pub is : IsOther (seen_of history new) (tables_seen history new) t
+  pub is : IsOther (seen_of history new) old.queue t
   pub shown : reply ≡ refusal_of not_built
 
+-- A LOAD outside a transaction is a commit of the rows that its body gives in the columns of the
+-- table, as the version before it has them.
+pub record Loads (history : History) (old : SessionState) (t : Statement) (body : Content)
+    (reply : ReplyData) (new : SessionState) : Type 0 where
+  pub name : List ℕ
+  pub bytes : ℕ
+  pub is : t ≡ statements.Load name bytes
+  pub free : old.queue ≡ None
+  pub before : History
+  pub columns : List Column
+  pub there : columns_in (replay before).tables name ≡ Some columns
+  pub rows : List (List Lit)
+  pub gives : Gives columns body (Ok rows)
+  pub commits : Commits history before old (insert_of name rows) new
+  pub good : commit_faults (states_of before) (insert_of name rows) ≡ []
+  pub shown : reply ≡ answers.loaded (row_count (states_of before) (insert_of name rows)) new.seen
+
+-- a refusal is told, or the statement isn't performed since the refusal shows a name that is no text
+abbrev pub Tells : Refusal → ReplyData → Type 0
+Tells cause reply = (reply ≡ refusal_of cause)
+    ⊎ ((reply ≡ refusal_of not_built) × (¬ IsUtf8 (name_in cause)))
+
+pub record LoadIsRefused (history : History) (old : SessionState) (t : Statement) (body : Content)
+    (reply : ReplyData) (new : SessionState) : Type 0 where
+  pub name : List ℕ
+  pub bytes : ℕ
+  pub is : t ≡ statements.Load name bytes
+  pub stays : Stays history old new
+  pub cause : Refusal
+  pub why : RefusesLoad (seen_of history new) name body old.queue cause
+  pub tells : Tells cause reply
+
 -- A statement takes a session from the old state to the new one, with this reply. Its body is for
--- LOAD, which is not performed yet.
+-- LOAD alone.
 pub data Steps (history : History) (old : SessionState) (t : Statement) (body : Content)
     (reply : ReplyData)
     (new : SessionState) : Type 0 where
   accepts : Accepts history old t reply new → Steps history old t body reply new
+  turns : Turns history old t reply new → Steps history old t body reply new
   asks : Asks history old t reply new → Steps history old t body reply new
   refuses : IsRefused history old t reply new → Steps history old t body reply new
   is_not_built : IsNotBuilt history old t reply new → Steps history old t body reply new
+  loads : Loads history old t body reply new → Steps history old t body reply new
+  refuses_load : LoadIsRefused history old t body reply new → Steps history old t body reply new

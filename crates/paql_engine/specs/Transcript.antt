@@ -7,7 +7,7 @@ use Rattle.session_proto.specs.Replies.{ReplyData, reply_text}
 use Rattle.session_proto.specs.Sessions.{Frame}
 use Rattle.version_store.specs.Histories.{History}
 use Rattle.paql_engine.specs.State.{SessionState}
-use Rattle.paql_engine.specs.Steps.{Steps}
+use Rattle.paql_engine.specs.Steps.{Steps, Stays}
 use Rattle.paql_engine.specs.Texts.{FaultOf}
 
 -- ---- of any session, by what one frame does to its state
@@ -41,14 +41,15 @@ pub record Performs (history : History) (old : SessionState) (frame : Frame) (re
   pub is : IsStatement frame.text statement
   pub steps : Steps history old statement frame.content reply new
 
--- memory ran out, and nothing changes
-pub record LacksMemory (old : SessionState) (reply : ReplyData) (new : SessionState) : Type 0 where
+-- memory ran out, and the session did nothing
+pub record LacksMemory (history : History) (old : SessionState) (reply : ReplyData)
+    (new : SessionState) : Type 0 where
   pub shown : reply ≡ refusal_of memory
-  pub keeps : new ≡ old
+  pub stays : Stays history old new
 
 -- What a frame does to a session over this history, and its reply.
 pub data Answers (history : History) (old : SessionState) (frame : Frame) (reply : ReplyData)
     (new : SessionState) : Type 0 where
   refuses : RefusesText old frame.text reply new → Answers history old frame reply new
   performs : Performs history old frame reply new → Answers history old frame reply new
-  lacks : LacksMemory old reply new → Answers history old frame reply new
+  lacks : LacksMemory history old reply new → Answers history old frame reply new

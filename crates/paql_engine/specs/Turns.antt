@@ -4,16 +4,19 @@ use Rattle.std.specs.Prelude.{◌≡◌, ◌⊎◌, ℕ, ◌+◌, ◌<◌, ◌�
 use Rattle.std.specs.declared.alloc.AllocError.{AllocError}
 use Rattle.paql_ast.specs.declared.statements.Statement.{Statement}
 use Rattle.paql_grammar.specs.Texts.{IsStatement}
+use Rattle.version_store.specs.Vaults.{Holding}
 use Rattle.session_proto.specs.Frames.{is_blank}
 use Rattle.session_proto.specs.Input.{Input, Content, IsNext, absent, content as given}
 use Rattle.session_proto.specs.Causes.{text_cause}
 use Rattle.session_proto.specs.Refusals.{refusal_of, memory}
 use Rattle.session_proto.specs.Replies.{ReplyData, reply_text}
 use Rattle.session_proto.specs.Sessions.{Frame, Stands}
-use Rattle.paql_engine.specs.Conversation.{Stage, Conversation, MachineData, IsServing, IsFramed, WaitsFor, framing, parsing, reading, ended, work, turns_at, turns_left}
+use Rattle.paql_engine.specs.Conversation.{Stage, Conversation, MachineData, OwnMachine, IsServing}
+use Rattle.paql_engine.specs.Conversation.{IsFramed, WaitsFor, framing, parsing, reading, ended}
+use Rattle.paql_engine.specs.Conversation.{work, turns_at, turns_left, over, talks}
 use Rattle.paql_engine.specs.Machine.{room_of}
 use Rattle.paql_engine.specs.Replied.{reply_of}
-use Rattle.paql_engine.specs.State.{opening}
+use Rattle.paql_engine.specs.State.{SessionState}
 use Rattle.paql_engine.specs.Texts.{IsLoad, FaultOf}
 use Rattle.paql_engine.specs.Transcript.{Transcript, Answers, texts}
 use Rattle.paql_engine.specs.declared.ending.SessionEnd.{SessionEnd}
@@ -33,19 +36,20 @@ IsFree (parsing words) = ⊥
 IsFree (ended end) = ⊥
 
 -- So many bytes were taken, these frames were answered, and just their replies were written.
-pub record IsHere (bytes written : List ℕ) (frames : List Frame) (replies : List ReplyData)
-    (machine : MachineData) : Type 0 where
+pub record IsHere (first : SessionState) (bytes written : List ℕ) (frames : List Frame)
+    (replies : List ReplyData) (machine : MachineData) : Type 0 where
   pub counted : length bytes ≡ machine.talk.taken
   pub few : machine.talk.taken ≤ MAX_BYTES
   pub transcript : Transcript
-      (Answers machine.session.history) opening frames replies machine.session.state
+      (Answers machine.session.history) first frames replies machine.session.state
   pub paid : written ≡ texts replies
 
 -- the framer gave this text, and nothing was done with it yet
-pub record IsFramedIn (bytes written words : List ℕ) (machine : MachineData) : Type 0 where
+pub record IsFramedIn (first : SessionState) (bytes written words : List ℕ)
+    (machine : MachineData) : Type 0 where
   pub frames : List Frame
   pub replies : List ReplyData
-  pub here : IsHere bytes written frames replies machine
+  pub here : IsHere first bytes written frames replies machine
   pub framed : IsFramed (record {
     bytes =
         bytes;
@@ -56,10 +60,11 @@ pub record IsFramedIn (bytes written words : List ℕ) (machine : MachineData) :
   pub quiet : machine.talk.owed ≡ []
 
 -- the framer is after this frame, which is still to be answered
-pub record IsAfter (bytes written : List ℕ) (frame : Frame) (machine : MachineData) : Type 0 where
+pub record IsAfter (first : SessionState) (bytes written : List ℕ) (frame : Frame)
+    (machine : MachineData) : Type 0 where
   pub frames : List Frame
   pub replies : List ReplyData
-  pub here : IsHere bytes written frames replies machine
+  pub here : IsHere first bytes written frames replies machine
   pub stands : Stands IsLoad bytes (frames ++ frame ∷ []) None machine.talk.input
   pub free : machine.talk.waiting ≡ None
 
@@ -74,9 +79,10 @@ abbrev pub replied : Result Answer AllocError → ReplyData
 replied (Ok answer) = reply_of answer
 replied (Err fault) = refusal_of memory
 
--- its bytes; only a reply that was made may lack memory for them
+-- its bytes; a reply that was made, or is made now, may lack memory for them
 abbrev pub Owes : Result Answer AllocError → Option (List ℕ) → Type 0
 Owes (Ok (answers.Made reply)) None = Unit {0}
+Owes (Ok (answers.Accepted accepted committed)) None = Unit {0}
 Owes (Ok answers.NotBuilt) None = ⊥
 Owes (Err fault) None = ⊥
 Owes answered (Some owed) = owed ≡ reply_text (replied answered)
@@ -91,31 +97,33 @@ pub record IsSettled (old new : Conversation) : Type 0 where
 
 -- the frame after which the machine is, is answered
 abbrev pub Performs : Statement → Content → MachineData → MachineData → Type 0
-Performs t content old new = (bytes written words : List ℕ)
-    → IsAfter bytes written (record { text = words; content = content }) old → IsStatement words t
-    → IsServing bytes written new
+Performs t content old new = (first : SessionState) (bytes written words : List ℕ)
+    → IsAfter first bytes written (record { text = words; content = content }) old
+    → IsStatement words t → IsServing first bytes written new
 
 -- the text of a statement is begun or answered
 abbrev pub BeginsWith : Statement → MachineData → MachineData → Type 0
-BeginsWith t old new = (bytes written words : List ℕ)
-    → IsFramedIn bytes written words old → IsStatement words t → IsServing bytes written new
+BeginsWith t old new = (first : SessionState) (bytes written words : List ℕ)
+    → IsFramedIn first bytes written words old → IsStatement words t
+    → IsServing first bytes written new
 
 -- fewer turns are left than with a text to parse
 abbrev pub IsFewer : Conversation → Conversation → Type 0
 IsFewer old new = turns_left new < turns_at old (parsing [])
 
--- a text with this fault is refused
-abbrev pub RefusesFault : TextFault → ℕ → MachineData → MachineData → Type 0
-RefusesFault fault at old new = (bytes written words : List ℕ)
-    → IsFramedIn bytes written words old → FaultOf words (text_cause fault at)
-    → IsServing bytes written new
+-- a text with this fault is refused, whatever the vault holds
+abbrev pub RefusesFault : TextFault → ℕ → OwnMachine → OwnMachine → Type 0
+RefusesFault fault at old new =
+    (vault : Holding) (first : SessionState) (bytes written words : List ℕ)
+    → IsFramedIn first bytes written words (over vault old) → FaultOf words (text_cause fault at)
+    → IsServing first bytes written (over vault new)
 
 -- the framer gave the body of the statement that waits for it
-pub record HasBody (bytes written : List ℕ) (content : Content)
+pub record HasBody (first : SessionState) (bytes written : List ℕ) (content : Content)
     (machine : MachineData) : Type 0 where
   pub frames : List Frame
   pub replies : List ReplyData
-  pub here : IsHere bytes written frames replies machine
+  pub here : IsHere first bytes written frames replies machine
   pub before : Input
   pub words : List ℕ
   pub stands : Stands IsLoad bytes frames (Some words) before
@@ -123,59 +131,52 @@ pub record HasBody (bytes written : List ℕ) (content : Content)
   pub waits : WaitsFor (Some words) machine.talk.waiting
 
 abbrev pub Finishes : Content → MachineData → MachineData → Type 0
-Finishes content old new =
-    (bytes written : List ℕ) → HasBody bytes written content old → IsServing bytes written new
+Finishes content old new = (first : SessionState) (bytes written : List ℕ)
+    → HasBody first bytes written content old → IsServing first bytes written new
 
--- the same machine at this stage
-abbrev pub at_stage : MachineData → Stage → MachineData
-at_stage machine stage = record {
-  session = machine.session;
-  talk = record {
-    input = machine.talk.input;
-    waiting = machine.talk.waiting;
-    owed = machine.talk.owed;
-    taken = machine.talk.taken;
-    stage = stage;
-  };
+-- the same conversation at this stage
+abbrev pub at_stage : Conversation → Stage → Conversation
+at_stage talk stage = record {
+  input = talk.input;
+  waiting = talk.waiting;
+  owed = talk.owed;
+  taken = talk.taken;
+  stage = stage;
 }
 
 -- and with these bytes owed
-abbrev pub with_owed : MachineData → List ℕ → MachineData
-with_owed machine owed = record {
-  session = machine.session;
-  talk = record {
-    input = machine.talk.input;
-    waiting = machine.talk.waiting;
-    owed = owed;
-    taken = machine.talk.taken;
-    stage = framing;
-  };
+abbrev pub with_owed : Conversation → List ℕ → Conversation
+with_owed talk owed = record {
+  input = talk.input;
+  waiting = talk.waiting;
+  owed = owed;
+  taken = talk.taken;
+  stage = framing;
 }
 
--- the same machine, which waits for the body of this statement
-abbrev pub waiting_for : MachineData → Statement → Input → MachineData
-waiting_for machine t input = record {
-  session = machine.session;
-  talk = record {
-    input = input;
-    waiting = Some t;
-    owed = machine.talk.owed;
-    taken = machine.talk.taken;
-    stage = framing;
-  };
+-- the same conversation, which waits for the body of this statement
+abbrev pub waiting_for : Conversation → Statement → Input → Conversation
+waiting_for talk t input = record {
+  input = input;
+  waiting = Some t;
+  owed = talk.owed;
+  taken = talk.taken;
+  stage = framing;
 }
 
 -- more is read, if there is room for it
-pub data Needs (old : MachineData) (wish : Wish) (new : MachineData) : Type 0 where
-  stops : room_of old ≡ 0 → wish ≡ End ends.SessionLimit
-      → new ≡ at_stage old (ended ends.SessionLimit) → Needs old wish new
-  reads : 0 < room_of old → wish ≡ Read (room_of old) → new ≡ at_stage old reading
-      → Needs old wish new
+pub data Needs (old : OwnMachine) (wish : Wish) (new : OwnMachine) : Type 0 where
+  stops : room_of old.talk ≡ 0 → wish ≡ End ends.SessionLimit
+      → new ≡ talks old (at_stage old.talk (ended ends.SessionLimit)) → Needs old wish new
+  reads : 0 < room_of old.talk → wish ≡ Read (room_of old.talk)
+      → new ≡ talks old (at_stage old.talk reading) → Needs old wish new
 
 -- what is owed is to be written, if there was memory for it
-abbrev pub IsOwedNow : Option (List ℕ) → MachineData → Wish → MachineData → Type 0
-IsOwedNow (Some owed) old wish new = (wish ≡ Write) × (new ≡ with_owed old owed)
-IsOwedNow None old wish new = (wish ≡ End ends.Memory) × (new ≡ at_stage old (ended ends.Memory))
+abbrev pub IsOwedNow : Option (List ℕ) → OwnMachine → Wish → OwnMachine → Type 0
+IsOwedNow (Some owed) old wish new =
+    (wish ≡ Write) × (new ≡ talks old (with_owed old.talk owed))
+IsOwedNow None old wish new =
+    (wish ≡ End ends.Memory) × (new ≡ talks old (at_stage old.talk (ended ends.Memory)))
 
 -- not more turns are left than after a reply
 abbrev pub IsLess : Conversation → Conversation → Type 0

@@ -5,21 +5,26 @@ ghost use Rattle.session_proto.specs.Input.{content_of, awaiting};
 ghost use Rattle.session_proto.specs.Causes.{text_cause};
 ghost use Rattle.session_proto.specs.Refusals.{refusal_of};
 ghost use Rattle.session_proto.specs.Replies.{reply_text};
-ghost use Rattle.paql_engine.specs.Conversation.{IsServing, told, turns_left, framing, reading, ended, none, input_ended, read_failed, write_failed};
-ghost use Rattle.paql_engine.specs.Machine.{Continues, Feeds, Writes, HasText, room_of, without_owed, Wishes, IsParsed};
-ghost use Rattle.paql_engine.specs.Replied.{reply_of};
+ghost use Rattle.version_store.specs.Vaults.{Holding, holding};
+ghost use Rattle.paql_engine.specs.Conversation.{IsServing, over, talks, told, turns_left, framing, reading, ended, none, input_ended, read_failed, write_failed};
+ghost use Rattle.paql_engine.specs.Machine.{Continues, ContinuesOver, FeedsOver, WritesOver, HasText, room_of, without_owed, Wishes, IsParsed};
+ghost use Rattle.paql_engine.specs.Replied.{reply_of, shown_as};
 ghost use Rattle.paql_engine.specs.Stages.{stage_of};
+ghost use Rattle.paql_engine.specs.State.{Grows, opening};
 ghost use Rattle.paql_engine.specs.Turns.{IsFree, Performs, BeginsWith, Finishes, RefusesFault, Needs, Owes, IsOwedNow, IsSettled, IsFewer, IsLess, IsInputEnd, at_stage, waiting_for, stage_fed};
 
+use crate::accepted::{Accepted, accepted_reply};
 use crate::ending::{MAX_BYTES, MAX_READ, SessionEnd};
 use crate::owed::Owed;
 use crate::session::{Answer, Session};
 use crate::text::{Text, body_of};
 use paql_ast::statements::Statement;
+use search_core::Solver;
 use session_proto::refusals::{Refusal, TextFault, refusal_reply};
 use session_proto::{Body, Framed, Framer, Reply, reply_bytes};
 use std::alloc::{AllocError, Global};
 use std::marker::Model;
+use version_store::{Committed, Vault};
 
 /// What a machine wishes next.
 #[derive(Clone, Copy, Debug, PartialEq, Eq)]
@@ -47,8 +52,9 @@ enum Stage {
     Ended(SessionEnd),
 }
 
-/// A session's bytes, what it has accepted, and what it has still to write. Contracts see its session and its
-/// conversation.
+/// A session's bytes, its transaction, and what it has still to write. Contracts see its session and its conversation.
+/// Its commits are in a vault, the same one throughout the session, which is lent to the calls that may perform a
+/// statement.
 #[derive(Drop)]
 pub struct Machine {
     framer: Framer,
@@ -62,10 +68,10 @@ pub struct Machine {
 impl Model for Machine {
     ghost use Rattle.std.specs.Coded.{codes};
     ghost use Rattle.paql_ast.specs.contracts.conditions.Pred as pred;
-    ghost use Rattle.paql_engine.specs.Conversation.{MachineData};
+    ghost use Rattle.paql_engine.specs.Conversation.{OwnMachine};
     ghost use Rattle.paql_engine.specs.Stages.{stage_of};
 
-    ghost Value = { MachineData };
+    ghost Value = { OwnMachine };
 
     ghost coded = { Prim.hlevel (codes, pred.the_row.coded) };
 
@@ -82,14 +88,14 @@ impl Model for Machine {
 }
 
 impl Machine {
-    /// A session at its beginning. It takes no memory.
+    /// A session at its beginning, whatever its vault holds. It takes no memory.
     pub fn new(alloc: Global) -> Machine
-        ensures serves { IsServing [] [] result }
-        ensures told { told result ≡ none }
+        ensures serves { (vault : Holding) → IsServing (opening vault) [] [] (over vault result) }
+        ensures told { told result.talk ≡ none }
     {
         Machine {
             framer: Framer::new(alloc),
-            session: Session::new(alloc),
+            session: Session::new(),
             waiting: None,
             owed: Owed::nothing(alloc),
             taken: 0,
@@ -98,23 +104,31 @@ impl Machine {
     }
 
     /// What the machine wishes next. It frames the bytes that are held, and performs a statement whose body is whole.
-    pub fn wish(&mut self, alloc: Global) -> Wish
-        ensures continues { Continues self.old self.new }
-        ensures wish { Wishes result self.new }
-        ensures told { told self.new ≡ told self.old }
+    pub fn wish<V: Vault, X: Solver>(
+        &mut self,
+        alloc: Global,
+        vault: &mut V,
+        solver: &mut X,
+    ) -> Wish
+        ensures continues { Continues (over (holding V.held V.own V.stake vault.old) self.old)
+            (over (holding V.held V.own V.stake vault.new) self.new) }
+        ensures grows { Grows (holding V.held V.own V.stake vault.old)
+            (holding V.held V.own V.stake vault.new) }
+        ensures wish { Wishes result self.new.talk }
+        ensures told { told self.new.talk ≡ told self.old.talk }
         ensures turns { turns_left self.new.talk ≤ turns_left self.old.talk }
     {
         match self.stage {
             Stage::Ended(end) => Wish::End(end),
             Stage::Parsing(_) => Wish::Parse,
-            Stage::Framing | Stage::Reading => self.write_or_frame(alloc),
+            Stage::Framing | Stage::Reading => self.write_or_frame(alloc, vault, solver),
         }
     }
 
     /// The text that is to be parsed.
     pub fn text(&self) -> &[u8]
-        requires { (words : List ℕ) × HasText self.now words }
-        ensures { HasText self.now result.now }
+        requires { (words : List ℕ) × HasText self.now.talk words }
+        ensures { HasText self.now.talk result.now }
     {
         match &self.stage {
             Stage::Parsing(text) => text.as_slice(),
@@ -123,14 +137,23 @@ impl Machine {
     }
 
     /// What the text is that was to be parsed. If memory ran out for its tree, the session ends.
-    pub fn parsed(&mut self, alloc: Global, parsed: Result<Text, AllocError>)
-        requires { IsParsed self.old parsed }
-        ensures continues { Continues self.old self.new }
-        ensures told { told self.new ≡ none }
+    pub fn parsed<V: Vault, X: Solver>(
+        &mut self,
+        alloc: Global,
+        vault: &mut V,
+        solver: &mut X,
+        parsed: Result<Text, AllocError>,
+    )
+        requires { IsParsed self.old.talk parsed }
+        ensures continues { Continues (over (holding V.held V.own V.stake vault.old) self.old)
+            (over (holding V.held V.own V.stake vault.new) self.new) }
+        ensures grows { Grows (holding V.held V.own V.stake vault.old)
+            (holding V.held V.own V.stake vault.new) }
+        ensures told { told self.new.talk ≡ none }
         ensures turns { turns_left self.new.talk < turns_left self.old.talk }
     {
         match parsed {
-            Ok(Text::Statement(statement)) => self.begin(alloc, statement),
+            Ok(Text::Statement(statement)) => self.begin(alloc, vault, solver, statement),
             Ok(Text::Faulty(fault, at)) => self.refuse(alloc, fault, at),
             Ok(Text::Blank) => self.stage = Stage::Framing,
             Err(_) => {
@@ -150,8 +173,8 @@ impl Machine {
     pub fn wrote(&mut self, count: usize)
         requires wished { self.old.talk.stage ≡ framing }
         requires count { count ≤ length self.old.talk.owed }
-        ensures value { self.new ≡ without_owed self.old count }
-        ensures writes { Writes self.old (take count self.old.talk.owed) self.new }
+        ensures value { self.new ≡ talks self.old (without_owed self.old.talk count) }
+        ensures writes { WritesOver self.old (take count self.old.talk.owed) self.new }
     {
         self.owed.advance(count);
     }
@@ -160,9 +183,9 @@ impl Machine {
     pub fn feed(&mut self, piece: &[u8])
         requires wished { self.old.talk.stage ≡ reading }
         requires some { 0 < length piece.now }
-        requires room { length piece.now ≤ room_of self.old }
-        ensures feeds { Feeds self.old piece.now self.new }
-        ensures told { told self.new ≡ none }
+        requires room { length piece.now ≤ room_of self.old.talk }
+        ensures feeds { FeedsOver self.old piece.now self.new }
+        ensures told { told self.new.talk ≡ none }
         ensures turns { turns_left self.new.talk < turns_left self.old.talk }
     {
         self.taken += piece.len();
@@ -172,8 +195,8 @@ impl Machine {
     /// Nothing is left to be read.
     pub fn input_ended(&mut self)
         requires { self.old.talk.stage ≡ reading }
-        ensures continues { Continues self.old self.new }
-        ensures told { told self.new ≡ input_ended }
+        ensures continues { ContinuesOver self.old self.new }
+        ensures told { told self.new.talk ≡ input_ended }
         ensures turns { turns_left self.new.talk < turns_left self.old.talk }
     {
         self.stage = Stage::Ended(end_of(&self.framer));
@@ -182,8 +205,8 @@ impl Machine {
     /// The source failed.
     pub fn read_failed(&mut self)
         requires { self.old.talk.stage ≡ reading }
-        ensures continues { Continues self.old self.new }
-        ensures told { told self.new ≡ read_failed }
+        ensures continues { ContinuesOver self.old self.new }
+        ensures told { told self.new.talk ≡ read_failed }
         ensures turns { turns_left self.new.talk < turns_left self.old.talk }
     {
         self.stage = Stage::Ended(SessionEnd::ReadFault);
@@ -192,35 +215,46 @@ impl Machine {
     /// The sink failed.
     pub fn write_failed(&mut self)
         requires { self.old.talk.stage ≡ framing }
-        ensures continues { Continues self.old self.new }
-        ensures told { told self.new ≡ write_failed }
+        ensures continues { ContinuesOver self.old self.new }
+        ensures told { told self.new.talk ≡ write_failed }
         ensures turns { turns_left self.new.talk < turns_left self.old.talk }
     {
         self.stage = Stage::Ended(SessionEnd::WriteFault);
     }
 
     // What is owed is written before anything is framed.
-    fn write_or_frame(&mut self, alloc: Global) -> Wish
+    fn write_or_frame<V: Vault, X: Solver>(
+        &mut self,
+        alloc: Global,
+        vault: &mut V,
+        solver: &mut X,
+    ) -> Wish
         requires { IsFree self.old.talk.stage }
-        ensures continues { Continues self.old self.new }
-        ensures wish { Wishes result self.new }
-        ensures told { told self.new ≡ none }
+        ensures continues { Continues (over (holding V.held V.own V.stake vault.old) self.old)
+            (over (holding V.held V.own V.stake vault.new) self.new) }
+        ensures grows { Grows (holding V.held V.own V.stake vault.old)
+            (holding V.held V.own V.stake vault.new) }
+        ensures wish { Wishes result self.new.talk }
+        ensures told { told self.new.talk ≡ none }
         ensures turns { turns_left self.new.talk ≤ turns_left self.old.talk }
     {
         if !self.owed.bytes().is_empty() {
             self.stage = Stage::Framing;
             return Wish::Write;
         }
-        self.frame(alloc)
+        self.frame(alloc, vault, solver)
     }
 
     // Frames the next statement or body, if it is whole.
-    fn frame(&mut self, alloc: Global) -> Wish
+    fn frame<V: Vault, X: Solver>(&mut self, alloc: Global, vault: &mut V, solver: &mut X) -> Wish
         requires free { IsFree self.old.talk.stage }
         requires quiet { self.old.talk.owed ≡ [] }
-        ensures continues { Continues self.old self.new }
-        ensures wish { Wishes result self.new }
-        ensures told { told self.new ≡ none }
+        ensures continues { Continues (over (holding V.held V.own V.stake vault.old) self.old)
+            (over (holding V.held V.own V.stake vault.new) self.new) }
+        ensures grows { Grows (holding V.held V.own V.stake vault.old)
+            (holding V.held V.own V.stake vault.new) }
+        ensures wish { Wishes result self.new.talk }
+        ensures told { told self.new.talk ≡ none }
         ensures turns { turns_left self.new.talk ≤ turns_left self.old.talk }
     {
         match self.framer.next(alloc) {
@@ -231,7 +265,7 @@ impl Machine {
                 self.stage = Stage::Parsing(text);
                 Wish::Parse
             }
-            Ok(Framed::Body(body)) => self.finish(alloc, &body),
+            Ok(Framed::Body(body)) => self.finish(alloc, vault, solver, &body),
         }
     }
 
@@ -250,7 +284,7 @@ impl Machine {
 
     // The session ends so.
     fn end(&mut self, end: SessionEnd) -> Wish
-        ensures stage { self.new ≡ at_stage self.old (ended end) }
+        ensures stage { self.new ≡ talks self.old (at_stage self.old.talk (ended end)) }
         ensures wish { result ≡ Wish.End end }
     {
         self.stage = Stage::Ended(end);
@@ -258,22 +292,33 @@ impl Machine {
     }
 
     // Performs a statement, or waits for its body.
-    fn begin(&mut self, alloc: Global, statement: Statement)
-        ensures begins { BeginsWith statement self.old self.new }
-        ensures told { told self.new ≡ none }
+    fn begin<V: Vault, X: Solver>(
+        &mut self,
+        alloc: Global,
+        vault: &mut V,
+        solver: &mut X,
+        statement: Statement,
+    )
+        ensures begins { BeginsWith statement
+            (over (holding V.held V.own V.stake vault.old) self.old)
+            (over (holding V.held V.own V.stake vault.new) self.new) }
+        ensures grows { Grows (holding V.held V.own V.stake vault.old)
+            (holding V.held V.own V.stake vault.new) }
+        ensures told { told self.new.talk ≡ none }
         ensures fewer { IsFewer self.old.talk self.new.talk }
     {
         match body_of(&statement) {
             Some(bytes) => self.wait_for(statement, bytes),
             None => {
-                self.perform(alloc, statement, &Body::None);
+                self.perform(alloc, vault, solver, statement, &Body::None);
             }
         }
     }
 
     // Waits for the body of a statement.
     fn wait_for(&mut self, statement: Statement, bytes: u64)
-        ensures { self.new ≡ waiting_for self.old statement (awaiting self.old.talk.input bytes) }
+        ensures { self.new ≡ talks self.old
+            (waiting_for self.old.talk statement (awaiting self.old.talk.input bytes)) }
     {
         self.framer.want_body(bytes);
         self.waiting = Some(statement);
@@ -290,26 +335,47 @@ impl Machine {
     }
 
     // Performs the statement whose body came.
-    fn finish(&mut self, alloc: Global, body: &Body) -> Wish
+    fn finish<V: Vault, X: Solver>(
+        &mut self,
+        alloc: Global,
+        vault: &mut V,
+        solver: &mut X,
+        body: &Body,
+    ) -> Wish
         requires { self.old.talk.owed ≡ [] }
-        ensures finishes { Finishes (content_of body.now) self.old self.new }
-        ensures wish { Wishes result self.new }
-        ensures told { told self.new ≡ none }
+        ensures finishes { Finishes (content_of body.now)
+            (over (holding V.held V.own V.stake vault.old) self.old)
+            (over (holding V.held V.own V.stake vault.new) self.new) }
+        ensures grows { Grows (holding V.held V.own V.stake vault.old)
+            (holding V.held V.own V.stake vault.new) }
+        ensures wish { Wishes result self.new.talk }
+        ensures told { told self.new.talk ≡ none }
         ensures less { IsLess self.old.talk self.new.talk }
     {
         match self.waiting.take() {
-            Some(statement) => self.perform(alloc, statement, body),
+            Some(statement) => self.perform(alloc, vault, solver, statement, body),
             None => self.need(),
         }
     }
 
     // Performs a statement.
-    fn perform(&mut self, alloc: Global, statement: Statement, body: &Body) -> Wish
-        ensures performs { Performs statement (content_of body.now) self.old self.new }
-        ensures wish { Wishes result self.new }
+    fn perform<V: Vault, X: Solver>(
+        &mut self,
+        alloc: Global,
+        vault: &mut V,
+        solver: &mut X,
+        statement: Statement,
+        body: &Body,
+    ) -> Wish
+        ensures performs { Performs statement (content_of body.now)
+            (over (holding V.held V.own V.stake vault.old) self.old)
+            (over (holding V.held V.own V.stake vault.new) self.new) }
+        ensures grows { Grows (holding V.held V.own V.stake vault.old)
+            (holding V.held V.own V.stake vault.new) }
+        ensures wish { Wishes result self.new.talk }
         ensures settled { IsSettled self.old.talk self.new.talk }
     {
-        let answered = self.session.step(alloc, statement, body);
+        let answered = self.session.step(alloc, vault, solver, statement, body);
         self.owe(owed_for(alloc, answered))
     }
 
@@ -363,8 +429,20 @@ fn owed_for(alloc: Global, answered: Result<Answer, AllocError>) -> Option<Owed>
 {
     match answered {
         Ok(Answer::Made(reply)) => bytes_of(alloc, &reply),
+        Ok(Answer::Accepted(accepted, committed)) => accepted_bytes(alloc, accepted, committed),
         Ok(Answer::NotBuilt) => Some(Owed::not_built()),
         Err(_) => Some(Owed::memory()),
+    }
+}
+
+// The bytes of the reply to an accepted commit, if there is memory for them.
+fn accepted_bytes(alloc: Global, accepted: Accepted, committed: Committed) -> Option<Owed>
+    ensures { MatchOption result (Unit {0}) (λ owed.
+        owed ≡ reply_text (shown_as accepted committed.rows committed.version)) }
+{
+    match accepted_reply(alloc, accepted, committed) {
+        Ok(reply) => bytes_of(alloc, &reply),
+        Err(_) => None,
     }
 }
 

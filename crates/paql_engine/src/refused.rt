@@ -9,7 +9,9 @@ ghost use Rattle.paql_engine.specs.Showing.{Shows};
 use paql_bind::Refusal as Binding;
 use schema_types::Text;
 use session_proto::Refusal;
-use session_proto::refusals::{BindFault, CellFault, ChangeFault, CommitLimit, QueryFault};
+use session_proto::refusals::{
+    BindFault, CellFault, ChangeFault, CommitLimit, LoadFault, QueryFault,
+};
 use std::alloc::{AllocError, Global};
 use version_store::{CommitKind, PartitionFault, RowKind, TableFault};
 
@@ -24,7 +26,12 @@ fn text_of(alloc: Global, name: &Text) -> Result<Option<String>, AllocError>
     }
 }
 
-fn no_table(alloc: Global, change: Option<u64>, name: &Text) -> Result<Option<Refusal>, AllocError>
+/// There is no table of this name.
+pub(crate) fn no_table(
+    alloc: Global,
+    change: Option<u64>,
+    name: &Text,
+) -> Result<Option<Refusal>, AllocError>
     ensures { Shows (refusals.no_table change name.now) result }
 {
     match text_of(alloc, name)? {
@@ -137,6 +144,20 @@ fn cell(
 {
     match text_of(alloc, column)? {
         Some(column) => Ok(Some(Refusal::Change(change, ChangeFault::Cell { fault, column, row }))),
+        None => Ok(None),
+    }
+}
+
+/// A field of the record of this number doesn't fit its column.
+pub(crate) fn bad_field(
+    alloc: Global,
+    column: &Text,
+    number: u64,
+) -> Result<Option<Refusal>, AllocError>
+    ensures { Shows (refusals.bad_field column.now number) result }
+{
+    match text_of(alloc, column)? {
+        Some(column) => Ok(Some(Refusal::Load(LoadFault::BadCell { column, number }))),
         None => Ok(None),
     }
 }

@@ -1,214 +1,379 @@
-//! A session: the commits that it accepted so far, with the tables after them, and what it keeps of its last answer.
-ghost use Rattle.std.specs.Prelude.{◌≡◌, ◌<◌, ◌++◌, [], ◌∷◌, IfOk, IsErr, IsTrue, OnErr, None, ℕ, List};
-ghost use Rattle.package_query.specs.Package.{AscendsFrom};
+//! A session over a vault: the changes of the transaction that is open, and what is kept of the last answer.
+ghost use Rattle.std.specs.Prelude.{◌≡◌, ◌≢◌, ◌+◌, [], ◌∷◌, ◌++◌, IfOk, OnOk, OnErr, Some, None, false, ℕ, List, length};
+ghost use Rattle.paql_ast.specs.declared.queries.Query.{Query};
 ghost use Rattle.paql_ast.specs.declared.statements.Statement.{Statement};
-ghost use Rattle.version_store.specs.Built.{AreTables};
-ghost use Rattle.version_store.specs.Histories.{replay};
 ghost use Rattle.paql_ast.specs.declared.statements.Statement.TheVariants as statements;
-ghost use Rattle.session_proto.specs.Input.{Content, content_of};
+ghost use Rattle.session_proto.specs.Answers as answers;
+ghost use Rattle.session_proto.specs.Causes.{session_cause};
+ghost use Rattle.session_proto.specs.Input.{content_of};
+ghost use Rattle.session_proto.specs.Refusals.{refusal_of};
+ghost use Rattle.version_store.specs.Laws.{HaveRows};
+ghost use Rattle.version_store.specs.Legal.{HasColumns};
+ghost use Rattle.version_store.specs.Vaults.{Holding, Sees, holding};
 ghost use Rattle.version_store.specs.declared.changes.Change.{Change};
-ghost use Rattle.paql_engine.specs.Performed.{change_of, query_of, is_exact, is_performed};
-ghost use Rattle.paql_engine.specs.Showing.{AnswersCommit, RefusedSo, RefusesCommit, StepsTo, Grows, tables_of};
-ghost use Rattle.paql_engine.specs.State.{opening};
-ghost use Rattle.paql_engine.specs.Steps.{Steps, IsBoundTo, faults_of, rows_asked};
+ghost use Rattle.paql_engine.specs.LoadSteps.{Inserts, LoadsTo};
+ghost use Rattle.paql_engine.specs.Performed.{change_of, query_of, is_exact, is_load, is_turn};
+ghost use Rattle.paql_engine.specs.Showing.{RefusedSo, RefusesCommit, StepsTo, Looks};
+ghost use Rattle.paql_engine.specs.State.{Grows, nothing_done, session_over};
+ghost use Rattle.paql_engine.specs.Steps.{Steps};
 ghost use Rattle.paql_engine.specs.Replied.{reply_of};
 
-use crate::refused;
-use bound_query::BoundQuery;
+use crate::accepted::{Accepted, accepted_as};
+use crate::asking::{Found, find};
+use crate::changing::change_of;
+use crate::{loading, refused};
 use paql_ast::queries::{Method, Query};
 use paql_ast::statements::Statement;
-use paql_bind::{BindFault, bind};
-use query_answer::{Answered, Kept, answer};
-use schema_types::{Column, Lit, Text};
+use query_answer::Kept;
+use schema_types::{Lit, Text};
+use search_core::Solver;
+use session_proto::refusals::{BindFault, SessionFault};
 use session_proto::{Body, Refusal, Reply, answers, refusal_reply};
+use snapshots::Snapshot;
 use sqlite_items::Items;
 use std::alloc::{AllocError, Global};
 use std::marker::Model;
-use table_schema::Row;
-use version_store::{CommitFault, CommitKind, VersionStore};
+use version_store::{Change, Commit, CommitFault, CommitKind, Committed, Vault, VaultFault};
 
 /// What answers a statement.
 #[derive(Debug, Drop)]
 pub enum Answer {
     /// A reply that was made.
     Made(Reply),
+    /// A commit was accepted, whose reply is still to be made.
+    Accepted(Accepted, Committed),
     /// The statement isn't performed yet. Its line is constant, so that it takes no memory.
     NotBuilt,
 }
 
-/// The commits that a session accepted, in order, with the tables after them, and what it keeps of the last query that
-/// it answered. Contracts see the history and the session's state.
+/// The changes of the transaction that is open, and what is kept of the last query that was answered. The commits are in
+/// a vault, which each call is lent, the same one throughout a session.
 #[derive(Drop)]
 pub struct Session {
-    store: VersionStore,
+    queue: Option<Commit>,
     kept: Option<Kept>,
 }
 
 impl Model for Session {
-    ghost use Rattle.std.specs.Prelude.{None, length};
     ghost use Rattle.std.specs.Coded.{codes};
     ghost use Rattle.paql_ast.specs.contracts.conditions.Pred as pred;
-    ghost use Rattle.paql_engine.specs.State.{SessionData};
+    ghost use Rattle.paql_engine.specs.State.{OwnSession};
 
-    ghost Value = { SessionData };
+    ghost Value = { OwnSession };
 
     ghost coded = { Prim.hlevel (codes, pred.the_row.coded) };
 
-    ghost view = { λ s. record {
-      history = s.store;
-      state = record { queue = None; kept = s.kept; seen = length s.store };
-    } };
+    ghost view = { λ s. record { queue = s.queue; kept = s.kept } };
 }
 
 impl Session {
-    /// No commit yet. It takes no memory.
-    pub fn new(alloc: Global) -> Session
-        ensures { result ≡ record { history = []; state = opening } }
+    /// No transaction, and nothing kept. It takes no memory.
+    pub fn new() -> Session
+        ensures { result ≡ nothing_done }
     {
         Session {
-            store: VersionStore::new(alloc),
+            queue: None,
             kept: None,
         }
     }
 
-    /// Performs a statement with its body and gives its answer. If memory runs out, nothing changes.
-    pub fn step(
+    /// Performs a statement with its body over a vault and gives its answer. If memory runs out, the session is as
+    /// before.
+    pub fn step<V: Vault, X: Solver>(
         &mut self,
         alloc: Global,
+        vault: &mut V,
+        solver: &mut X,
         statement: Statement,
         body: &Body,
     ) -> Result<Answer, AllocError>
-        ensures ok { IfOk result (λ answer. Steps self.new.history self.old.state statement
-            (content_of body.now) (reply_of answer) self.new.state) }
-        ensures grows { Grows self.old self.new }
+        ensures ok { IfOk result (λ answer. Steps (V.held vault.new)
+            (session_over (holding V.held V.own V.stake vault.old) self.old).state statement
+            (content_of body.now) (reply_of answer)
+            (session_over (holding V.held V.own V.stake vault.new) self.new).state) }
+        ensures grows { Grows (holding V.held V.own V.stake vault.old)
+            (holding V.held V.own V.stake vault.new) }
         ensures err { OnErr result (self.new ≡ self.old) }
+        ensures sees { OnErr result (Sees (holding V.held V.own V.stake vault.old)
+            (holding V.held V.own V.stake vault.new)) }
     {
         match statement {
-            Statement::Create { table, columns } => self.create(alloc, table, columns),
-            Statement::Insert { table, rows } => self.insert(alloc, table, rows),
-            Statement::Query(query) => self.ask(alloc, &query),
-            _ => Ok(self.pass_over()),
+            Statement::Begin => self.begin(alloc),
+            Statement::Commit => self.commit(alloc, vault),
+            Statement::Rollback => self.roll_back(alloc),
+            Statement::Query(query) => self.ask(alloc, vault, solver, &query),
+            Statement::Load { table, .. } => self.load(alloc, vault, table, body),
+            other => self.change_or_pass(alloc, vault, other),
+        }
+    }
+
+    // A change, or a statement that isn't performed.
+    fn change_or_pass<V: Vault>(
+        &mut self,
+        alloc: Global,
+        vault: &mut V,
+        statement: Statement,
+    ) -> Result<Answer, AllocError>
+        requires turn { is_turn statement ≡ false }
+        requires query { query_of statement ≡ None }
+        requires load { is_load statement ≡ false }
+        ensures ok { IfOk result (StepsTo
+            (session_over (holding V.held V.own V.stake vault.old) self.old) statement
+            (session_over (holding V.held V.own V.stake vault.new) self.new)) }
+        ensures grows { Grows (holding V.held V.own V.stake vault.old)
+            (holding V.held V.own V.stake vault.new) }
+        ensures err { OnErr result (self.new ≡ self.old) }
+        ensures sees { OnErr result (Sees (holding V.held V.own V.stake vault.old)
+            (holding V.held V.own V.stake vault.new)) }
+    {
+        match change_of(statement) {
+            Some(change) => self.change(alloc, vault, change),
+            None => Ok(self.pass_over()),
         }
     }
 
     // A statement that isn't performed.
     fn pass_over(&self) -> Answer
-        ensures { (t : Statement) → change_of t ≡ None → query_of t ≡ None
-            → StepsTo self.now t self.now result }
+        ensures { (vault : Holding) (t : Statement) → change_of t ≡ None → query_of t ≡ None
+            → is_load t ≡ false → is_turn t ≡ false
+            → StepsTo (session_over vault self.now) t (session_over vault self.now) result }
     {
-        let _commits = self.store.version();
         Answer::NotBuilt
     }
 
-    // CREATE TABLE.
-    fn create(
+    // A change. In a transaction it is queued, and else it is a commit.
+    fn change<V: Vault>(
         &mut self,
         alloc: Global,
-        table: Text,
-        columns: Items<Column>,
+        vault: &mut V,
+        change: Change,
     ) -> Result<Answer, AllocError>
-        ensures ok { IfOk result (StepsTo self.old (statements.Create table columns) self.new) }
-        ensures grows { Grows self.old self.new }
+        requires { HasColumns change }
+        ensures ok { IfOk result (λ answer. (t : Statement) → change_of t ≡ Some change → StepsTo
+            (session_over (holding V.held V.own V.stake vault.old) self.old) t
+            (session_over (holding V.held V.own V.stake vault.new) self.new) answer) }
+        ensures grows { Grows (holding V.held V.own V.stake vault.old)
+            (holding V.held V.own V.stake vault.new) }
         ensures err { OnErr result (self.new ≡ self.old) }
+        ensures sees { OnErr result (Sees (holding V.held V.own V.stake vault.old)
+            (holding V.held V.own V.stake vault.new)) }
     {
-        if columns.is_empty() {
-            return Ok(self.pass_over());
+        match &mut self.queue {
+            Some(queue) => queued(alloc, queue, change),
+            None => self.commit_alone(alloc, vault, change),
         }
-        let reply = answers::created(alloc, self.store.version() + 1)?;
-        let outcome = self.store.create(alloc, table, columns);
-        committed(alloc, outcome, reply)
     }
 
-    // INSERT.
-    fn insert(
+    // A change outside a transaction.
+    fn commit_alone<V: Vault>(
         &mut self,
         alloc: Global,
-        table: Text,
-        rows: Items<Items<Lit>>,
+        vault: &mut V,
+        change: Change,
     ) -> Result<Answer, AllocError>
-        ensures ok { IfOk result (StepsTo self.old (statements.Insert table rows) self.new) }
-        ensures grows { Grows self.old self.new }
+        requires columns { HasColumns change }
+        requires alone { self.old.queue ≡ None }
+        ensures ok { IfOk result (λ answer. (t : Statement) → change_of t ≡ Some change → StepsTo
+            (session_over (holding V.held V.own V.stake vault.old) self.old) t
+            (session_over (holding V.held V.own V.stake vault.new) self.new) answer) }
+        ensures grows { Grows (holding V.held V.own V.stake vault.old)
+            (holding V.held V.own V.stake vault.new) }
+        ensures err { OnErr result (self.new ≡ self.old) }
+        ensures sees { OnErr result (Sees (holding V.held V.own V.stake vault.old)
+            (holding V.held V.own V.stake vault.new)) }
+    {
+        let accepted = accepted_as(&change);
+        let mut commit = Commit::new(alloc);
+        commit.push(change)?;
+        match vault.commit(alloc, commit) {
+            Ok(committed) => Ok(Answer::Accepted(accepted, committed)),
+            Err((fault, _)) => refused_commit(alloc, fault),
+        }
+    }
+
+    // LOAD. In a transaction it is refused, and else it is a commit.
+    fn load<V: Vault>(
+        &self,
+        alloc: Global,
+        vault: &mut V,
+        table: Text,
+        body: &Body,
+    ) -> Result<Answer, AllocError>
+        ensures ok { IfOk result (LoadsTo
+            (session_over (holding V.held V.own V.stake vault.old) self.now) table
+            (content_of body.now)
+            (session_over (holding V.held V.own V.stake vault.new) self.now)) }
+        ensures grows { Grows (holding V.held V.own V.stake vault.old)
+            (holding V.held V.own V.stake vault.new) }
+        ensures sees { OnErr result (Sees (holding V.held V.own V.stake vault.old)
+            (holding V.held V.own V.stake vault.new)) }
+    {
+        if self.queue.is_some() {
+            return unready(alloc, SessionFault::InTransaction);
+        }
+        let snapshot = vault.snapshot()?;
+        match loading::find(alloc, &snapshot, &table, body)? {
+            loading::Found::Rows(rows) => insert(alloc, vault, table, rows),
+            loading::Found::Refused(refusal) => refused(alloc, refusal),
+        }
+    }
+
+    // BEGIN.
+    fn begin(&mut self, alloc: Global) -> Result<Answer, AllocError>
+        ensures ok { (vault : Holding) → IfOk result (StepsTo (session_over vault self.old)
+            statements.Begin (session_over vault self.new)) }
         ensures err { OnErr result (self.new ≡ self.old) }
     {
-        let reply = answers::inserted(alloc, rows.len() as u64, self.store.version() + 1)?;
-        let outcome = self.store.insert(alloc, table, rows);
-        committed(alloc, outcome, reply)
+        if self.queue.is_some() {
+            return unready(alloc, SessionFault::InTransaction);
+        }
+        let reply = answers::begun(alloc)?;
+        self.queue = Some(Commit::new(alloc));
+        Ok(Answer::Made(reply))
+    }
+
+    // COMMIT. If it is refused, the transaction stays open, and its changes stay as they are.
+    fn commit<V: Vault>(&mut self, alloc: Global, vault: &mut V) -> Result<Answer, AllocError>
+        ensures ok { IfOk result (StepsTo
+            (session_over (holding V.held V.own V.stake vault.old) self.old) statements.Commit
+            (session_over (holding V.held V.own V.stake vault.new) self.new)) }
+        ensures grows { Grows (holding V.held V.own V.stake vault.old)
+            (holding V.held V.own V.stake vault.new) }
+        ensures err { OnErr result (self.new ≡ self.old) }
+        ensures sees { OnErr result (Sees (holding V.held V.own V.stake vault.old)
+            (holding V.held V.own V.stake vault.new)) }
+    {
+        let Some(queue) = self.queue.take() else {
+            return unready(alloc, SessionFault::NotInTransaction);
+        };
+        let accepted = Accepted::Transaction(queue.len() as u64);
+        match vault.commit(alloc, queue) {
+            Ok(committed) => Ok(Answer::Accepted(accepted, committed)),
+            Err((fault, queue)) => {
+                self.queue = Some(queue);
+                refused_commit(alloc, fault)
+            }
+        }
+    }
+
+    // ROLLBACK.
+    fn roll_back(&mut self, alloc: Global) -> Result<Answer, AllocError>
+        ensures ok { (vault : Holding) → IfOk result (StepsTo (session_over vault self.old)
+            statements.Rollback (session_over vault self.new)) }
+        ensures err { OnErr result (self.new ≡ self.old) }
+    {
+        if self.queue.is_none() {
+            return unready(alloc, SessionFault::NotInTransaction);
+        }
+        let reply = answers::rolled_back(alloc)?;
+        self.queue = None;
+        Ok(Answer::Made(reply))
     }
 
     // A query.
-    fn ask(&mut self, alloc: Global, query: &Query) -> Result<Answer, AllocError>
-        ensures ok { IfOk result (StepsTo self.old (statements.Query query.now) self.new) }
-        ensures grows { Grows self.old self.new }
-        ensures err { OnErr result (self.new ≡ self.old) }
-    {
-        if !is_performed(query) {
-            return Ok(self.pass_over());
-        }
-        match bind(alloc, self.store.schemas(), query) {
-            Ok(bound) => self.solve(alloc, query, &bound),
-            Err(BindFault::Refused(fault)) => refused(
-                alloc,
-                refused::binding(alloc, None, &fault)?,
-            ),
-            Err(BindFault::Memory(error)) => Err(error),
-        }
-    }
-
-    // A query that is bound.
-    fn solve(
+    fn ask<V: Vault, X: Solver>(
         &mut self,
         alloc: Global,
+        vault: &mut V,
+        solver: &mut X,
         query: &Query,
-        bound: &BoundQuery,
     ) -> Result<Answer, AllocError>
-        requires performed { IsTrue (is_performed query.now) }
-        requires good { faults_of (tables_of self.old) query.now ≡ [] }
-        requires bound { IsBoundTo (tables_of self.old) query.now bound.now }
-        ensures ok { IfOk result (StepsTo self.old (statements.Query query.now) self.new) }
-        ensures grows { Grows self.old self.new }
+        ensures ok { IfOk result (StepsTo
+            (session_over (holding V.held V.own V.stake vault.old) self.old) (statements.Query query.now)
+            (session_over (holding V.held V.own V.stake vault.new) self.new)) }
+        ensures grows { Grows (holding V.held V.own V.stake vault.old)
+            (holding V.held V.own V.stake vault.new) }
         ensures err { OnErr result (self.new ≡ self.old) }
+        ensures sees { OnErr result (Sees (holding V.held V.own V.stake vault.old)
+            (holding V.held V.own V.stake vault.new)) }
     {
-        let version = self.store.version();
-        let rows = rows_asked(&self.store, query);
-        match answer(alloc, bound, rows, version)? {
-            Answered::Reply(reply, kept) => {
+        if !is_exact(query.method) {
+            return Ok(self.pass_over());
+        }
+        let snapshot = match look(vault, query.version) {
+            Ok(snapshot) => snapshot,
+            Err(VaultFault::Unkept { asked, low, high }) => {
+                let fault = BindFault::Unkept { asked, high, low };
+                return refused(alloc, Some(Refusal::Bind(None, fault)));
+            }
+            Err(VaultFault::Memory(error)) => return Err(error),
+        };
+        match find(alloc, solver, query, &snapshot)? {
+            Found::Reply(reply, kept) => {
                 self.kept = Some(kept);
                 Ok(Answer::Made(reply))
             }
-            Answered::Refused(fault) => refused(alloc, Some(Refusal::Query(fault))),
+            Found::Refused(refusal) => refused(alloc, refusal),
         }
     }
 }
 
-// The rows of the table that a query names.
-fn rows_asked<'a>(store: &'a VersionStore, query: &Query) -> &'a [(u64, Row)]
-    ensures value { result.now ≡ rows_asked (replay store.now) query.now }
-    ensures ids { AscendsFrom 0 result.now }
-    ensures tables { AreTables (replay store.now).tables }
+/// The version that is asked for, or the last.
+pub(crate) fn look<V: Vault>(vault: &mut V, version: Option<u64>) -> Result<Snapshot, VaultFault>
+    ensures sees { Sees (holding V.held V.own V.stake vault.old)
+        (holding V.held V.own V.stake vault.new) }
+    ensures looks { Looks (V.held vault.new) version result }
+    ensures rows { IfOk result (λ snapshot. HaveRows snapshot.tables) }
 {
-    match store.rows(query.table.as_slice()) {
-        Some(rows) => rows,
-        None => &[],
+    match version {
+        Some(version) => vault.snapshot_at(version),
+        None => match vault.snapshot() {
+            Ok(snapshot) => Ok(snapshot),
+            Err(error) => Err(VaultFault::Memory(error)),
+        },
     }
 }
 
-// The answer to a commit, with the reply to an accepted one.
-fn committed(
+// A commit of the rows of a LOAD.
+fn insert<V: Vault>(
     alloc: Global,
-    outcome: Result<(), CommitFault>,
-    reply: Reply,
+    vault: &mut V,
+    table: Text,
+    rows: Items<Items<Lit>>,
 ) -> Result<Answer, AllocError>
-    ensures ok { IfOk result (AnswersCommit outcome reply) }
-    ensures err { OnErr result (IsErr outcome) }
+    ensures ok { IfOk result (Inserts (holding V.held V.own V.stake vault.old)
+        (holding V.held V.own V.stake vault.new) table rows) }
+    ensures grows { Grows (holding V.held V.own V.stake vault.old)
+        (holding V.held V.own V.stake vault.new) }
+    ensures sees { OnErr result (Sees (holding V.held V.own V.stake vault.old)
+        (holding V.held V.own V.stake vault.new)) }
 {
-    match outcome {
-        Ok(()) => Ok(Answer::Made(reply)),
-        Err(fault) => refused_commit(alloc, &fault),
+    let mut commit = Commit::new(alloc);
+    commit.push(Change::Insert { table, rows })?;
+    match vault.commit(alloc, commit) {
+        Ok(committed) => Ok(Answer::Accepted(Accepted::Loaded, committed)),
+        Err((fault, _)) => refused_commit(alloc, fault),
     }
+}
+
+// A change goes to the end of the queue.
+fn queued(alloc: Global, queue: &mut Commit, change: Change) -> Result<Answer, AllocError>
+    requires { HasColumns change }
+    ensures ok { IfOk result (λ answer.
+        reply_of answer ≡ answers.queued (length queue.old + 1)) }
+    ensures pushed { OnOk result (queue.new ≡ queue.old ++ change ∷ []) }
+    ensures err { OnErr result (queue.new ≡ queue.old) }
+{
+    let reply = answers::queued(alloc, queue.changes().len() as u64 + 1)?;
+    queue.push(change)?;
+    Ok(Answer::Made(reply))
+}
+
+// The session isn't ready for a statement.
+fn unready(alloc: Global, fault: SessionFault) -> Result<Answer, AllocError>
+    ensures { IfOk result (λ answer. reply_of answer ≡ refusal_of (session_cause fault)) }
+{
+    refused(alloc, Some(Refusal::Session(fault)))
 }
 
 // The answer to a commit that the store refuses.
-fn refused_commit(alloc: Global, fault: &CommitFault) -> Result<Answer, AllocError>
+fn refused_commit(alloc: Global, fault: CommitFault) -> Result<Answer, AllocError>
+    ensures { IfOk result (λ answer. RefusesCommit fault answer) }
+{
+    refused_for(alloc, &fault)
+}
+
+fn refused_for(alloc: Global, fault: &CommitFault) -> Result<Answer, AllocError>
     ensures { IfOk result (λ answer. RefusesCommit fault.now answer) }
 {
     if let CommitKind::Memory(_) = fault.kind {
@@ -227,13 +392,7 @@ fn refused(alloc: Global, refusal: Option<Refusal>) -> Result<Answer, AllocError
     }
 }
 
-// No version is asked for, and the method is exact.
-fn is_performed(query: &Query) -> bool
-    ensures { result ≡ is_performed query.now }
-{
-    query.version.is_none() && is_exact(query.method)
-}
-
+// The method of a query is exact.
 fn is_exact(method: Option<Method>) -> bool
     ensures { result ≡ is_exact method }
 {

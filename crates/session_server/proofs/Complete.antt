@@ -10,6 +10,7 @@ use Rattle.paql_engine.specs.Texts.{IsLoad}
 use Rattle.paql_engine.specs.declared.ending.SessionEnd.{SessionEnd}
 use Rattle.paql_engine.specs.declared.ending.SessionEnd.TheVariants as ends
 use Rattle.paql_engine.proofs.TextOnce.{load_once}
+use Rattle.version_store.specs.Vaults.{Holding}
 use Rattle.session_server.specs.Ends.{EndsWith, IsReadOut, IsWholeScript, IsDoneOrFault}
 
 -- what was read to the end is all that was left
@@ -60,5 +61,5 @@ module _ (source source_now : Shown) (script : IsWholeScript source.bytes) (acco
       let size : length script.bytes ≡ length account.bytes + length prefix_is.0 = ap length prefix_is.1 ∙ length-append account.bytes prefix_is.0 in
       absurd (omega (arith, size, many, script.few))
 
-pub is_whole : (source source_now sink sink_now : Shown) (end : SessionEnd) → EndsWith source source_now sink sink_now end → IsWholeScript source.bytes → IsDoneOrFault end
-is_whole source source_now sink sink_now end ended script = whole_by source source_now script ended.account ended.read end ended.ends ended.read_out
+pub is_whole : (vault vault_now : Holding) (source source_now sink sink_now : Shown) (end : SessionEnd) → EndsWith vault vault_now source source_now sink sink_now end → IsWholeScript source.bytes → IsDoneOrFault end
+is_whole vault vault_now source source_now sink sink_now end ended script = whole_by source source_now script ended.account ended.read end ended.ends ended.read_out

@@ -3,8 +3,8 @@ use Rattle.std.specs.Prelude.{◌≡◌, ◌⊎◌, ℕ, ◌<◌, ◌≤◌, Lis
 use Rattle.pq_base.specs.Shown.{Shown, GivesBytes, TakesBytes, HasEnded, HasFailed, HasNoFault}
 use Rattle.session_proto.specs.Sessions.{Frame, AreFrames, EndsClean, IsOverlong}
 use Rattle.paql_engine.specs.Ends.{Account, EndsSo}
-use Rattle.paql_engine.specs.State.{SessionState, opening}
-use Rattle.version_store.specs.Histories.{History}
+use Rattle.version_store.specs.Vaults.{Holding}
+use Rattle.paql_engine.specs.State.{SessionState, Grows, opening}
 use Rattle.paql_engine.specs.Texts.{IsLoad}
 use Rattle.paql_engine.specs.Transcript.{Transcript, Answers}
 use Rattle.paql_engine.specs.declared.ending.SessionEnd.{SessionEnd}
@@ -18,14 +18,19 @@ IsReadOut ends.Truncated = Unit {0}
 IsReadOut end = ⊥
 
 -- The bytes that the source gave and those that the sink took are a transcript of the frames that
--- were performed, over a history that begins with nothing, and the session ends so by them.
-pub record EndsWith (source source_now sink sink_now : Shown) (end : SessionEnd) : Type 0 where
+-- were performed, from what the vault held on and over what it holds at the end, of which the
+-- session has seen all; and the session ends so by them.
+pub record EndsWith (vault vault_now : Holding) (source source_now sink sink_now : Shown)
+    (end : SessionEnd) : Type 0 where
   pub account : Account
-  pub history : History
   pub state : SessionState
+  pub grows : Grows vault vault_now
+  pub own : state.own ≡ vault_now.own
+  pub seen : state.seen ≡ length vault_now.held
   pub read : GivesBytes source source_now account.bytes
   pub most : length account.bytes ≤ MAX_BYTES
-  pub transcript : Transcript (Answers history) opening account.frames account.replies state
+  pub transcript : Transcript (Answers vault_now.held) (opening vault) account.frames
+      account.replies state
   pub wrote : TakesBytes sink sink_now account.written
   pub ends : EndsSo account end
   pub read_out : IsReadOut end → HasEnded source_now

@@ -1,8 +1,10 @@
 //! The driver of a session machine over a source and a sink.
 ghost use Rattle.std.specs.Prelude.{◌≡◌, ◌≢◌, ◌<◌, [], ℕ, List};
 ghost use Rattle.pq_base.specs.Shown.{shown};
-ghost use Rattle.paql_engine.specs.Conversation.{told, turns_left, framing, reading, none};
+ghost use Rattle.version_store.specs.Vaults.{holding};
+ghost use Rattle.paql_engine.specs.Conversation.{over, told, turns_left, framing, reading, none};
 ghost use Rattle.paql_engine.specs.Machine.{Continues, HasText, room_of};
+ghost use Rattle.paql_engine.specs.State.{Grows};
 ghost use Rattle.session_server.specs.Driving.{PutsOwed, ReadsMore};
 ghost use Rattle.session_server.specs.Ends.{EndsWith, HasCause, IsWholeScript, IsDoneOrFault};
 
@@ -10,12 +12,23 @@ use crate::reading::read_text;
 use crate::streams::{Put, put_all};
 use paql_engine::{MAX_READ, Machine, SessionEnd, Wish};
 use pq_base::{Pull, Sink, Source};
+use search_core::Solver;
 use std::alloc::Global;
+use version_store::Vault;
 
-/// Answers the statements of a source, from no table on. It reads only when the machine wishes to, which is when the
-/// bytes taken hold no further whole statement and every reply so far is written.
-pub fn serve_session<S: Source, K: Sink>(alloc: Global, source: &mut S, sink: &mut K) -> SessionEnd
-    ensures ends { EndsWith (shown S.left S.faults source.old) (shown S.left S.faults source.new)
+/// Answers the statements of a source over a vault. It reads only when the machine wishes to, which is when the bytes
+/// taken hold no further whole statement and every reply so far is written. A transaction that is open at the end is
+/// dropped.
+pub fn serve_session<V: Vault, X: Solver, S: Source, K: Sink>(
+    alloc: Global,
+    vault: &mut V,
+    solver: &mut X,
+    source: &mut S,
+    sink: &mut K,
+) -> SessionEnd
+    ensures ends { EndsWith (holding V.held V.own V.stake vault.old)
+        (holding V.held V.own V.stake vault.new)
+        (shown S.left S.faults source.old) (shown S.left S.faults source.new)
         (shown K.written K.faults sink.old) (shown K.written K.faults sink.new) result }
     ensures cause { HasCause (shown S.left S.faults source.old) (shown S.left S.faults source.new)
         (shown K.written K.faults sink.old) (shown K.written K.faults sink.new) result }
@@ -23,8 +36,8 @@ pub fn serve_session<S: Source, K: Sink>(alloc: Global, source: &mut S, sink: &m
 {
     let mut machine = Machine::new(alloc);
     loop {
-        match machine.wish(alloc) {
-            Wish::Parse => parse_next(alloc, &mut machine),
+        match machine.wish(alloc, vault, solver) {
+            Wish::Parse => parse_next(alloc, vault, solver, &mut machine),
             Wish::Write => write_owed(sink, &mut machine),
             Wish::Read(room) => read_more(source, &mut machine, room),
             Wish::End(end) => return end,
@@ -33,14 +46,22 @@ pub fn serve_session<S: Source, K: Sink>(alloc: Global, source: &mut S, sink: &m
 }
 
 // Tells the machine what its text is.
-fn parse_next(alloc: Global, machine: &mut Machine)
-    requires { (words : List ℕ) × HasText machine.old words }
-    ensures continues { Continues machine.old machine.new }
-    ensures told { told machine.new ≡ none }
+fn parse_next<V: Vault, X: Solver>(
+    alloc: Global,
+    vault: &mut V,
+    solver: &mut X,
+    machine: &mut Machine,
+)
+    requires { (words : List ℕ) × HasText machine.old.talk words }
+    ensures continues { Continues (over (holding V.held V.own V.stake vault.old) machine.old)
+        (over (holding V.held V.own V.stake vault.new) machine.new) }
+    ensures grows { Grows (holding V.held V.own V.stake vault.old)
+        (holding V.held V.own V.stake vault.new) }
+    ensures told { told machine.new.talk ≡ none }
     ensures turns { turns_left machine.new.talk < turns_left machine.old.talk }
 {
     let parsed = read_text(alloc, machine.text());
-    machine.parsed(alloc, parsed);
+    machine.parsed(alloc, vault, solver, parsed);
 }
 
 // Writes what is owed.
@@ -65,7 +86,7 @@ fn write_owed<K: Sink>(sink: &mut K, machine: &mut Machine)
 // Reads once, and hands on what came.
 fn read_more<S: Source>(source: &mut S, machine: &mut Machine, room: usize)
     requires stage { machine.old.talk.stage ≡ reading }
-    requires room { room ≡ room_of machine.old }
+    requires room { room ≡ room_of machine.old.talk }
     requires some { 0 < room }
     ensures { ReadsMore (shown S.left S.faults source.old) (shown S.left S.faults source.new)
         machine.old machine.new }

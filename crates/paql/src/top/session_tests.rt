@@ -11,7 +11,12 @@ const CREATED: &str = "{\"status\":\"created\",\"version\":1}\n";
 const CREATED_AND_NOT_BUILT: &str =
     "{\"status\":\"created\",\"version\":1}\n{\"error\":\"notbuilt\",\"status\":\"refused\"}\n";
 
-const NOT_BUILT: &str = "{\"error\":\"notbuilt\",\"status\":\"refused\"}\n";
+const CREATED_WITHOUT_HEADER: &str =
+    "{\"status\":\"created\",\"version\":1}\n{\"error\":\"header\",\"status\":\"refused\"}\n";
+
+const NO_TABLE: &str = "{\"error\":\"notable\",\"name\":\"T\",\"status\":\"refused\"}\n";
+
+const BEGUN: &str = "{\"status\":\"begun\"}\n";
 
 // A comment and a text with a semicolon, blank frames, and a body with semicolons and quotes.
 const SCRIPT: &str = r#"CREATE TABLE T (v INT);
@@ -29,11 +34,11 @@ LOAD T BYTES 2;;;CERTIFICATE;
 const SCRIPT_REPLIES: &str = r#"{"status":"created","version":1}
 {"change":1,"column":"v","error":"badcell","row":1,"status":"refused"}
 {"rows":2,"status":"inserted","version":2}
-{"error":"notbuilt","status":"refused"}
+{"error":"header","status":"refused"}
 {"objective":"7","package":[[1,1]],"status":"optimal","version":2}
 {"at":1,"error":"syntax","status":"refused"}
 {"objective":"5","package":[[2,1]],"status":"optimal","version":2}
-{"error":"notbuilt","status":"refused"}
+{"error":"header","status":"refused"}
 {"error":"notbuilt","status":"refused"}
 "#;
 
@@ -68,7 +73,10 @@ fn assert_ends(
     let bytes = case.input.as_bytes().to_vec(alloc)?;
     let mut source = MemSource::new(bytes, case.piece, vec![in alloc; case.read_fails; 1]?);
     let mut sink = MemSink::new(alloc, vec![in alloc; case.write_fails; 1]?);
-    let end = serve_session(alloc, &mut source, &mut sink);
+    let mut vault = SoloVault {
+        store: VersionStore::new(alloc)?,
+    };
+    let end = serve_session(alloc, &mut vault, &mut SoloSolver, &mut source, &mut sink);
     let start = case.input.get(..60).unwrap_or(case.input);
     assert_eq!(rt; end, want, "{start}");
     assert_eq!(rt; sink.written(), replies.as_bytes(), "{start}");
@@ -120,12 +128,12 @@ fn how_inputs_end(rt: HostRuntime) -> Result<(), Fail> {
             "",
         ),
         ("LOAD T BYTES 3;ab", SessionEnd::Truncated, ""),
-        ("LOAD T BYTES 3; ;;", SessionEnd::Done, NOT_BUILT),
-        ("LOAD T BYTES 0;", SessionEnd::Done, NOT_BUILT),
+        ("LOAD T BYTES 3; ;;", SessionEnd::Done, NO_TABLE),
+        ("LOAD T BYTES 0;", SessionEnd::Done, NO_TABLE),
         (
             "CREATE TABLE T (v INT);LOAD T BYTES 0;-",
             SessionEnd::Truncated,
-            CREATED_AND_NOT_BUILT,
+            CREATED_WITHOUT_HEADER,
         ),
     ] {
         for piece in [1, 4096] {
@@ -142,7 +150,7 @@ fn how_inputs_end(rt: HostRuntime) -> Result<(), Fail> {
 #[test]
 fn faults_of_source_and_sink(rt: HostRuntime) -> Result<(), Fail> {
     let create = "CREATE TABLE T (v INT);";
-    let both = "CREATE TABLE T (v INT);BEGIN;";
+    let both = "CREATE TABLE T (v INT);CERTIFICATE;";
     for (input, piece, read_fails, write_fails, want, replies) in [
         (both, 1, 2, 0, SessionEnd::ReadFault, ""),
         (create, 4096, 1, 0, SessionEnd::ReadFault, ""),
@@ -177,7 +185,7 @@ fn how_long_a_statement_is(rt: HostRuntime) -> Result<(), Fail> {
         (1_048_576, ";BEGIN;", SessionEnd::TooLong, ""),
         (1_048_575, ";", SessionEnd::Done, ""),
         (1_048_575, "", SessionEnd::Done, ""),
-        (1_048_570, "BEGIN;", SessionEnd::Done, NOT_BUILT),
+        (1_048_570, "BEGIN;", SessionEnd::Done, BEGUN),
         (1_048_571, "BEGIN;", SessionEnd::TooLong, ""),
     ] {
         let text = spaces(alloc, count, ending)?;
@@ -230,7 +238,10 @@ fn assert_reply(
     let bytes = script.as_bytes().to_vec(alloc)?;
     let mut source = MemSource::new(bytes, 4096, Vec::new(alloc));
     let mut sink = MemSink::new(alloc, Vec::new(alloc));
-    let end = serve_session(alloc, &mut source, &mut sink);
+    let mut vault = SoloVault {
+        store: VersionStore::new(alloc)?,
+    };
+    let end = serve_session(alloc, &mut vault, &mut SoloSolver, &mut source, &mut sink);
     assert_eq!(rt; end, SessionEnd::Done, "{text}");
     assert!(rt; sink.written().ends_with(want.as_bytes()), "{text}");
     Ok(())
@@ -337,26 +348,6 @@ fn queries_of_every_form(rt: HostRuntime) -> Result<(), Fail> {
             want.as_str()
         };
         assert_reply(&rt, alloc, "(5), (3), (4)", text.as_str(), line)?;
-    }
-    Ok(())
-}
-
-#[test]
-fn changes_that_are_not_built(rt: HostRuntime) -> Result<(), Fail> {
-    let alloc = rt.alloc();
-    for text in [
-        "SELECT PACKAGE(T) AS P FROM T AT VERSION 2 REPEAT 2",
-        "SELECT PACKAGE(T) AS P FROM T REPEAT 2 USING SKETCHREFINE",
-        "DELETE FROM T",
-        "UPDATE T SET v = 1",
-        "VACUUM 1",
-        "PARTITION T ON (v) SIZE 2 RADIUS 1",
-        "BEGIN",
-        "COMMIT",
-        "ROLLBACK",
-        "CERTIFICATE",
-    ] {
-        assert_reply(&rt, alloc, "(5)", text, NOT_BUILT)?;
     }
     Ok(())
 }
@@ -505,7 +496,10 @@ fn the_plain_program_agrees(rt: HostRuntime) -> Result<(), Fail> {
         let bytes = script.as_bytes().to_vec(alloc)?;
         let mut source = MemSource::new(bytes, 4096, Vec::new(alloc));
         let mut sink = MemSink::new(alloc, Vec::new(alloc));
-        let end = serve_session(alloc, &mut source, &mut sink);
+        let mut vault = SoloVault {
+            store: VersionStore::new(alloc)?,
+        };
+        let end = serve_session(alloc, &mut vault, &mut SoloSolver, &mut source, &mut sink);
         assert_eq!(rt; end, SessionEnd::Done, "{script}");
         let start = plain_start(&rt, alloc, values, repeat, limits)?;
         let last = sink
@@ -523,7 +517,10 @@ fn assert_large(rt: &impl Abort, alloc: Global, input: String, want: &str) -> Re
     let bytes = input.as_bytes().to_vec(alloc)?;
     let mut source = MemSource::new(bytes, 4096, Vec::new(alloc));
     let mut sink = MemSink::new(alloc, Vec::new(alloc));
-    let end = serve_session(alloc, &mut source, &mut sink);
+    let mut vault = SoloVault {
+        store: VersionStore::new(alloc)?,
+    };
+    let end = serve_session(alloc, &mut vault, &mut SoloSolver, &mut source, &mut sink);
     assert_eq!(rt; end, SessionEnd::Done);
     assert_eq!(rt; sink.written(), want.as_bytes());
     Ok(())
@@ -539,7 +536,7 @@ fn many_rows_find_memory(rt: HostRuntime) -> Result<(), Fail> {
     text.push_str("; SELECT PACKAGE(T) AS P FROM T REPEAT 0 SUCH THAT SUM(P.v) <= -1")?;
     text.push_str(" MAXIMIZE SUM(P.v); BEGIN;")?;
     let want = format!(in alloc;
-        "{CREATED}{{\"rows\":100000,\"status\":\"inserted\",\"version\":2}}\n{{\"status\":\"infeasible\",\"version\":2}}\n{NOT_BUILT}"
+        "{CREATED}{{\"rows\":100000,\"status\":\"inserted\",\"version\":2}}\n{{\"status\":\"infeasible\",\"version\":2}}\n{BEGUN}"
     )?;
     assert_large(&rt, alloc, text, want.as_str())
 }
@@ -554,9 +551,11 @@ fn far_places_and_long_bodies_find_memory(rt: HostRuntime) -> Result<(), Fail> {
         far,
         "{\"at\":1000000,\"error\":\"lex\",\"status\":\"refused\"}\n",
     )?;
-    let mut long = String::from_str(alloc, "LOAD T BYTES 16777217;")?;
+    let mut long = String::from_str(alloc, "CREATE TABLE T (v INT);LOAD T BYTES 16777217;")?;
     long.push_str(spaces(alloc, 16_777_217, "BEGIN;")?.as_str())?;
-    let want = format!(in alloc; "{NOT_BUILT}{NOT_BUILT}")?;
+    let want = format!(in alloc;
+        "{CREATED}{{\"error\":\"limitbytes\",\"status\":\"refused\"}}\n{BEGUN}"
+    )?;
     assert_large(&rt, alloc, long, want.as_str())
 }
 

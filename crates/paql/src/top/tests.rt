@@ -9,8 +9,6 @@ const FIRST: &str =
 
 const CREATED: &str = "{\"status\":\"created\",\"version\":1}\n";
 
-const NOT_BUILT: &str = "{\"error\":\"notbuilt\",\"status\":\"refused\"}\n";
-
 const TEN: &str =
     "{\"objective\":\"10\",\"package\":[[1,2]],\"status\":\"optimal\",\"version\":2}\n";
 
@@ -320,29 +318,6 @@ fn changes_are_refused(rt: HostRuntime) -> Result<(), Fail> {
             "{{\"change\":1,\"column\":\"v\",\"error\":\"{error}\",\"row\":2,\"status\":\"refused\"}}\n"
         )?;
         assert_last(&rt, alloc, "(5)", 1, &text, &want)?;
-    }
-    Ok(())
-}
-
-#[test]
-fn other_statements_are_not_built(rt: HostRuntime) -> Result<(), Fail> {
-    let alloc = rt.alloc();
-    for statement in [
-        "UPDATE T SET v = 1;",
-        "UPDATE T SET v = 1 WHERE v = 5;",
-        "DELETE FROM T;",
-        "DELETE FROM T WHERE v > 1 OR NOT v IN (5, 7);",
-        "LOAD T BYTES 4;(;')",
-        "LOAD T BYTES 0;",
-        "PARTITION T ON (v) SIZE 100 RADIUS 0.5;",
-        "VACUUM 3;",
-        "BEGIN;",
-        "COMMIT;",
-        "ROLLBACK;",
-        "CERTIFICATE;",
-    ] {
-        assert_answered(&rt, alloc, statement, NOT_BUILT)?;
-        assert_last(&rt, alloc, "(5)", 1, statement, NOT_BUILT)?;
     }
     Ok(())
 }

@@ -1,30 +1,49 @@
-use Rattle.std.proofs.Common.{◌≡◌, ◌≤◌, ◌<◌, ◌^◌, ◌-◌, [], ◌∷◌, false, Option, Result, refl, sym, subst, length, rules}
-use Rattle.std.specs.Prelude.{IfOk, IsTrue}
+use Rattle.std.proofs.Common.{refl}
 use Rattle.paql_ast.specs.declared.statements.Statement.TheVariants as statements
-use Rattle.query_answer.specs.Answers.{Answers, FormRefuses}
-use Rattle.paql_bind.specs.Queries.{query_faults}
-use Rattle.version_store.specs.declared.changes.Change.TheVariants as changes
-use Rattle.paql_engine.specs.Performed.{query_of, is_performed}
-use Rattle.paql_engine.specs.Refused.{binding_cause}
-use Rattle.paql_engine.specs.Showing.{StepsTo, Grows}
-use Rattle.paql_engine.specs.State.{SessionData}
 use Rattle.session_proto.specs.Input.{content_of}
-use Rattle.paql_engine.proofs.Rows.{performs, rest_none, grows_none}
+use Rattle.version_store.specs.Vaults.{holding}
+use Rattle.paql_engine.specs.State.{session_over}
+use Rattle.paql_engine.proofs.LoadedRows.{performs_load}
+use Rattle.paql_engine.proofs.Rows.{performs}
 use Rattle.paql_engine.proofs.session.Session.step.Goals as goal
 
-pub returns-in-Create-clause-ok : goal.returns-in-Create-clause-ok
-returns-in-Create-clause-ok c =
-    performs c.args.self.now c.create.new.self (statements.Create c.in-Create.table c.in-Create.columns) c.args.statement (content_of c.args.body.now) c.create.result c.in-Create.is c.create.ensures.ok
+pub returns-in-Begin-clause-ok : goal.returns-in-Begin-clause-ok
+returns-in-Begin-clause-ok g c =
+    let before = holding g.V.Vault.held g.V.Vault.own g.V.Vault.stake c.args.vault.now in
+    let after = holding g.V.Vault.held g.V.Vault.own g.V.Vault.stake c.args.vault.now in
+    performs (session_over before c.args.self.now) (session_over after c.begin.new.self) statements.Begin c.args.statement (content_of c.args.body.now) c.begin.result c.in-Begin.is (c.begin.ensures.ok before)
 
-pub returns-in-Insert-clause-ok : goal.returns-in-Insert-clause-ok
-returns-in-Insert-clause-ok c =
-    performs c.args.self.now c.insert.new.self (statements.Insert c.in-Insert.table c.in-Insert.rows) c.args.statement (content_of c.args.body.now) c.insert.result c.in-Insert.is c.insert.ensures.ok
+pub returns-in-Commit-clause-ok : goal.returns-in-Commit-clause-ok
+returns-in-Commit-clause-ok g c =
+    let before = holding g.V.Vault.held g.V.Vault.own g.V.Vault.stake c.args.vault.now in
+    let after = holding g.V.Vault.held g.V.Vault.own g.V.Vault.stake c.commit.new.vault in
+    performs (session_over before c.args.self.now) (session_over after c.commit.new.self) statements.Commit c.args.statement (content_of c.args.body.now) c.commit.result c.in-Commit.is c.commit.ensures.ok
+
+pub returns-in-Rollback-clause-ok : goal.returns-in-Rollback-clause-ok
+returns-in-Rollback-clause-ok g c =
+    let before = holding g.V.Vault.held g.V.Vault.own g.V.Vault.stake c.args.vault.now in
+    let after = holding g.V.Vault.held g.V.Vault.own g.V.Vault.stake c.args.vault.now in
+    performs (session_over before c.args.self.now) (session_over after c.roll_back.new.self) statements.Rollback c.args.statement (content_of c.args.body.now) c.roll_back.result c.in-Rollback.is (c.roll_back.ensures.ok before)
 
 pub returns-in-Query-clause-ok : goal.returns-in-Query-clause-ok
-returns-in-Query-clause-ok c =
-    performs c.args.self.now c.ask.new.self (statements.Query c.in-Query.query) c.args.statement (content_of c.args.body.now) c.ask.result c.in-Query.is c.ask.ensures.ok
+returns-in-Query-clause-ok g c =
+    let before = holding g.V.Vault.held g.V.Vault.own g.V.Vault.stake c.args.vault.now in
+    let after = holding g.V.Vault.held g.V.Vault.own g.V.Vault.stake c.ask.new.vault in
+    performs (session_over before c.args.self.now) (session_over after c.ask.new.self) (statements.Query c.in-Query.query) c.args.statement (content_of c.args.body.now) c.ask.result c.in-Query.is c.ask.ensures.ok
 
-pub returns : goal.returns
-returns c =
-    let rest = rest_none c.args.statement c.in_default.not-Create c.in_default.not-Insert c.in_default.not-Query in
-    record { ok = c.pass_over.ensures c.args.statement rest.0 rest.1 (content_of c.args.body.now); grows = grows_none c.args.self.now; err = tt }
+pub returns-in-Load-clause-ok : goal.returns-in-Load-clause-ok
+returns-in-Load-clause-ok g c =
+    let before = holding g.V.Vault.held g.V.Vault.own g.V.Vault.stake c.args.vault.now in
+    let after = holding g.V.Vault.held g.V.Vault.own g.V.Vault.stake c.load.new.vault in
+    performs_load (session_over before c.args.self.now) (session_over after c.args.self.now) c.in-Load.table c.in-Load.bytes c.args.statement (content_of c.args.body.now) c.load.result c.in-Load.is c.load.ensures.ok
+
+pub returns-in_default : goal.returns-in_default
+returns-in_default g c =
+    let before = holding g.V.Vault.held g.V.Vault.own g.V.Vault.stake c.args.vault.now in
+    let after = holding g.V.Vault.held g.V.Vault.own g.V.Vault.stake c.change_or_pass.new.vault in
+    record {
+      ok = performs (session_over before c.args.self.now) (session_over after c.change_or_pass.new.self) c.args.statement c.args.statement (content_of c.args.body.now) c.change_or_pass.result refl c.change_or_pass.ensures.ok;
+      grows = c.change_or_pass.ensures.grows;
+      err = c.change_or_pass.ensures.err;
+      sees = c.change_or_pass.ensures.sees;
+    }
