@@ -155,7 +155,6 @@ fn sees_operator(source: Source<'_>) -> bool
 }
 
 #[inline]
-#[tactic(auto, unfolding(paql_grammar::specs::ConditionReading::test))]
 fn test(alloc: Global, of: ColumnName, source: Source<'_>) -> Result<(Pred, Source<'_>), ReadError>
     ensures { Follows result (read.test of) source.entry }
 {
