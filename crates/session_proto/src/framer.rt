@@ -154,6 +154,13 @@ impl Framer {
         Ok(Framed::Statement(text))
     }
 
+    /// The bytes that were fed and neither given nor thrown away.
+    pub fn left(&self) -> &[u8]
+        ensures { result.now ≡ self.now.left }
+    {
+        &self.held[self.cursor.start..]
+    }
+
     /// Whether only space and comments are left, and no body is awaited.
     pub fn is_clean(&self) -> bool
         ensures { IsTrue result ↔ ((self.now.awaited ≡ None) × IsTrue (is_blank self.now.left)) }
