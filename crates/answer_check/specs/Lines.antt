@@ -1,4 +1,3 @@
--- Private: `Verdict::line`, until a command writes it.
 -- The line that tells a verdict.
 use Rattle.std.specs.Prelude.{ℕ, ℤ, Bool, true, false, List, [], ◌∷◌, ◌++◌, map, codes}
 use Rattle.std.specs.Fmt.{decimal, signed_decimal}

@@ -1,4 +1,3 @@
--- Private: `judge_answer`, until a command says its verdicts.
 -- What is said of a certificate's text for a query over the rows of its table.
 use Rattle.std.specs.Prelude.{◌≡◌, ◌≢◌, ◌⊎◌, ◌≤◌, ℕ, Bool, List, [], Option, None, Some, Result}
 use Rattle.std.specs.Prelude.{Ok, Err, ℤ, min}

@@ -1,4 +1,3 @@
--- Private: `check` in `src/checking.rt`.
 -- The first place of a tree, in preorder, that keeps it from being a certificate.
 use Rattle.std.specs.Prelude.{◌≡◌, ◌⊎◌, ℕ, List, [], ◌∷◌, ◌++◌, Bool, true, false, ℤ, pos, ◌+ℤ◌}
 use Rattle.std.specs.Prelude.{◌*ℤ◌, ◌≤ℤ◌, Option, None, Some}

@@ -1,4 +1,3 @@
--- Private: `read_cert`, `read_part` and the laws of texts.
 -- What a reader of certificate texts answers.
 use Rattle.std.specs.Prelude.{◌≡◌, ◌≢◌, ◌⊎◌, ℕ, ◌+◌, ◌<◌, ◌≤◌, List, [], ◌∷◌, ◌++◌, length, take}
 use Rattle.std.specs.Prelude.{Result, Ok, Err}

@@ -1,4 +1,3 @@
--- Private: `src/value.rt`, `src/reading.rt`, `src/writing.rt`.
 -- What a certificate text says, and its text.
 use Rattle.std.specs.Prelude.{◌≡◌, ℕ, suc, ◌+◌, ◌^◌, ◌<◌, ◌≤◌, List, [], ◌∷◌, ◌++◌, map, length}
 use Rattle.std.specs.Prelude.{ℤ, pos, negsuc, Option, None, Some}

@@ -1,4 +1,3 @@
--- Private: `src/kinds.rt`, `src/reading.rt`: which lines may come next.
 -- What may come after some lines of a certificate text.
 use Rattle.std.specs.Prelude.{◌≡◌, ◌⊎◌, ℕ, zero, suc, ◌+◌, ◌-◌, ◌^◌, ◌<◌, ◌≤◌, List, [], ◌∷◌}
 use Rattle.std.specs.Prelude.{replicate}

@@ -1,4 +1,3 @@
--- Private: `src/kinds.rt`.
 -- The lines of a certificate text: words and numbers. A text is such lines, each with a line feed.
 use Rattle.std.specs.Prelude.{◌≡◌, ℕ, List, [], ◌∷◌, ◌++◌, codes, length, All}
 use Rattle.cert_text.specs.declared.kinds.Kind.{Kind}

@@ -1,4 +1,3 @@
--- Private: `src/numbers.rt`.
 -- Numbers in a line: decimal, without leading zeros, one blank between two of them.
 use Rattle.std.specs.Prelude.{◌≡◌, ℕ, zero, suc, ◌/◌, ◌≤◌, List, [], ◌∷◌, ◌++◌, drop}
 use Rattle.std.specs.Prelude.{Option, None, Some}

@@ -1,4 +1,3 @@
--- Private: `src/lines.rt`, `src/reading.rt`.
 -- Which lines follow one another, and what has been read by them.
 use Rattle.std.specs.Prelude.{◌≡◌, ◌≢◌, ℕ, zero, suc, ◌+◌, ◌-◌, ◌^◌, ◌<◌, ◌≤◌, List, [], ◌∷◌, ◌++◌}
 use Rattle.std.specs.Prelude.{map}

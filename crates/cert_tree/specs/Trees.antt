@@ -1,4 +1,3 @@
--- Private: `assemble` and the type `Tree`.
 -- Trees as lists of nodes in preorder.
 use Rattle.std.specs.Prelude.{◌≡◌, ℕ, zero, suc, List, [], ◌∷◌, ◌++◌, map, IsPermutation}
 use Rattle.lin_bound.specs.declared.path.Branch.{Branch}

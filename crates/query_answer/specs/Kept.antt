@@ -1,4 +1,3 @@
--- Private: `Kept::text` in `src/kept.rt`, and the law in `src/laws.rt`.
 -- What is kept of an answer, as a certificate that can be written.
 use Rattle.std.specs.Prelude.{ℕ, ◌^◌, ◌≤◌, List}
 use Rattle.std.specs.List.{AllByRecursion}
