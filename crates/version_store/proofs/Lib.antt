@@ -17,4 +17,7 @@ pub mod Judging
 pub mod Having
 pub mod Keeping
 pub mod KeepingAt
+pub mod EachVersion
+pub mod Numbering
+pub mod Allowing
 pub mod Readying

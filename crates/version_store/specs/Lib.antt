@@ -9,6 +9,8 @@ pub mod Legal
 pub mod Counted
 pub mod Counts
 pub mod Laws
+pub mod Numbered
+pub mod Partitioned
 pub mod Worked
 pub mod Vaults
 pub mod Visits

@@ -2,6 +2,8 @@
 ghost use Rattle.version_store.specs.Laws.{LongerHistories};
 ghost use Rattle.version_store.specs.Legal.{LegalChanges, LegalHistories};
 ghost use Rattle.version_store.specs.Counted.{CountedEntries};
+ghost use Rattle.version_store.specs.Numbered.{NumberedHistories};
+ghost use Rattle.version_store.specs.Partitioned.{PartitionedHistories};
 ghost use Rattle.version_store.specs.Worked.{AreWorked};
 
 /// Small histories are what they were worked out to be by hand.
@@ -28,4 +30,16 @@ pub fn legal_histories()
 /// later commit wrote.
 pub fn counted_entries()
     ensures { CountedEntries }
+{}
+
+/// The rows of a version have ids from 1 to 10^12, since a commit inserts at most a million rows
+/// and a history has at most a million commits.
+pub fn numbered_histories()
+    ensures { NumberedHistories }
+{}
+
+/// The partition of a table of a version is one that the statement allows, and the table's rows
+/// are few and fit its columns: so they can be grouped by it.
+pub fn partitioned_histories()
+    ensures { PartitionedHistories }
 {}
