@@ -1,15 +1,17 @@
 -- Lemmas on the rows of a body, record by record.
-use Rattle.std.proofs.Common.{◌≡◌, ℕ, ◌+◌, ◌⊎◌, inl, inr, List, [], ◌∷◌, ◌++◌, length, Some, Result, Ok, Err, sym, subst, ◌∙◌, append-nil}
+use Rattle.std.proofs.Common.{◌≡◌, ℕ, ◌+◌, ◌⊎◌, inl, inr, List, [], ◌∷◌, ◌++◌, length, Some, Result, Ok, Err, refl, sym, subst, ◌∙◌, append-nil, length-append, arith}
 use Rattle.schema_types.specs.declared.Column.{Column}
 use Rattle.schema_types.specs.declared.Lit.{Lit}
 use Rattle.csv_load.specs.Fields.{with_first}
-use Rattle.csv_load.specs.Loading.{OrMemory, RecordGives, RecordsGive, TableGives, names_of}
+use Rattle.csv_load.specs.Loading.{GivesLoaded, IsLoaded, OrMemory, RecordGives, RecordsGive, TableGives, names_of}
 use Rattle.csv_load.specs.Loading.RecordGives.{bad_record}
 use Rattle.csv_load.specs.Loading.RecordsGive.{no_more_records, refused_record, before_records}
 use Rattle.csv_load.specs.Loading.TableGives.{bad_header}
 use Rattle.csv_load.specs.Between.{GivesFirst, IsBetween, IsTorn, Takes}
 use Rattle.csv_load.specs.declared.records.Next.{Next}
 use Rattle.csv_load.specs.declared.records.Next.TheVariants.{End, Bad}
+use Rattle.csv_load.specs.declared.loading.Loaded.{Loaded}
+use Rattle.csv_load.specs.declared.loading.Loaded.TheVariants.{Rows}
 use Rattle.csv_load.specs.declared.loading.LoadFault.{LoadFault}
 use Rattle.csv_load.specs.declared.loading.LoadFault.TheVariants.{BadRecord, BadCell, Header, LimitBytes, Memory}
 use Rattle.csv_load.proofs.BetweenLemmas.{Body}
@@ -31,6 +33,14 @@ or_refused P Q LimitBytes each given = each LimitBytes given
 or_refused P Q Header each given = each Header given
 or_refused P Q (BadRecord number) each given = each (BadRecord number) given
 or_refused P Q (BadCell number place) each given = each (BadCell number place) given
+
+loaded_each : (most : ℕ) (P Q : Result (List (List Lit)) LoadFault → Type 0) → ((r : Result (List (List Lit)) LoadFault) → P r → Q r) → (result : Result Loaded LoadFault) → GivesLoaded most P result → GivesLoaded most Q result
+loaded_each most P Q each (Ok loaded) given = (given.0, each (Ok given.0) given.1, given.2)
+loaded_each most P Q each (Err fault) given = each (Err fault) given
+
+-- what is given by each answer that is due is loaded, memory aside
+pub load_each : (most : ℕ) (P Q : Result (List (List Lit)) LoadFault → Type 0) (result : Result Loaded LoadFault) → ((r : Result (List (List Lit)) LoadFault) → P r → Q r) → OrMemory (GivesLoaded most P) result → OrMemory (GivesLoaded most Q) result
+load_each most P Q result each given = or_each (GivesLoaded most P) (GivesLoaded most Q) result (loaded_each most P Q each) given
 
 -- what the records that are left give decides what all of them give
 pub record Goes (columns : List Column) (rest : List (List (List ℕ))) (reader : Body) (done : List (List Lit)) (number : ℕ) : Type 0 where
@@ -65,6 +75,30 @@ record_torn columns rest old done number go torn =
 pub all_rows : (columns : List Column) (rest : List (List (List ℕ))) (old : Body) (done : List (List Lit)) (number : ℕ) (go : Goes columns rest old done number) → go.later ≡ [] → RecordsGive columns 1 rest (Ok done)
 all_rows columns rest old done number go none =
     subst (λ (rows : List (List Lit)). RecordsGive columns 1 rest (Ok rows)) (append-nil done) (go.decides (Ok []) (rw none (no_more_records number)))
+
+-- ---- what is kept of the rows
+
+-- the rows of the records before this number, of which this is loaded
+pub record Loads (columns : List Column) (rest : List (List (List ℕ))) (reader : Body) (most : ℕ) (loaded : Loaded) (number : ℕ) : Type 0 where
+  pub done : List (List Lit)
+  pub goes : Goes columns rest reader done number
+  pub keeps : IsLoaded most done loaded
+  pub count : length done + 1 ≡ number
+
+pub nothing_loaded : (columns : List Column) (rest : List (List (List ℕ))) (reader : Body) (most : ℕ) → IsBetween reader (Some (length columns)) rest → Loads columns rest reader most (Rows []) 1
+nothing_loaded columns rest reader most b = record { done = []; goes = goes_from_start columns rest reader b; keeps = (omega arith, refl); count = refl }
+
+pub one_more_loaded : (columns : List Column) (rest : List (List (List ℕ))) (old new : Body) (most : ℕ) (loaded more : Loaded) (number : ℕ) (fields : List (List ℕ)) (row : List Lit) (l : Loads columns rest old most loaded number)
+    → Takes (length columns) l.goes.later fields new → RecordGives columns number fields (Ok row) → IsLoaded most (l.done ++ row ∷ []) more → Loads columns rest new most more (number + 1)
+one_more_loaded columns rest old new most loaded more number fields row l takes gives keeps = record {
+  done = l.done ++ row ∷ [];
+  goes = one_more_row columns rest old new l.done number fields row l.goes takes gives;
+  keeps = keeps;
+  count = omega (arith, length-append l.done (row ∷ []), l.count);
+}
+
+pub all_loaded : (columns : List Column) (rest : List (List (List ℕ))) (old : Body) (most : ℕ) (loaded : Loaded) (number : ℕ) (l : Loads columns rest old most loaded number) → l.goes.later ≡ [] → GivesLoaded most (RecordsGive columns 1 rest) (Ok loaded)
+all_loaded columns rest old most loaded number l none = (l.done, all_rows columns rest old l.done number l.goes none, l.keeps)
 
 -- ---- the header
 

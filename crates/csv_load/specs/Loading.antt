@@ -10,6 +10,8 @@ use Rattle.csv_load.specs.declared.loading.TheConstants.{MAX_LOAD_BYTES}
 use Rattle.csv_load.specs.declared.loading.LoadFault.{LoadFault}
 use Rattle.csv_load.specs.declared.loading.LoadFault.TheVariants.{LimitBytes, Header, BadRecord}
 use Rattle.csv_load.specs.declared.loading.LoadFault.TheVariants.{BadCell, Memory}
+use Rattle.csv_load.specs.declared.loading.Loaded.{Loaded}
+use Rattle.csv_load.specs.declared.loading.Loaded.TheVariants.{Rows, Many}
 
 -- the records of a body, each a list of fields
 abbrev pub records_of : List ℕ → List (List (List ℕ))
@@ -67,3 +69,15 @@ abbrev pub OrMemory : {A : Type 0} → (Result A LoadFault → Type 0) → Resul
 OrMemory Gives (Ok given) = Gives (Ok given)
 OrMemory Gives (Err (Memory error)) = Unit {0}
 OrMemory Gives (Err fault) = Gives (Err fault)
+
+-- rows are kept if they aren't more than so many, and else counted
+abbrev pub IsLoaded : ℕ → List (List Lit) → Loaded → Type 0
+IsLoaded most rows (Rows kept) = (length rows ≤ most) × (kept ≡ rows)
+IsLoaded most rows (Many count) = (most < length rows) × (count ≡ length rows)
+
+-- what is loaded where so much is given
+abbrev pub GivesLoaded : ℕ → (Result (List (List Lit)) LoadFault → Type 0)
+    → Result Loaded LoadFault → Type 0
+GivesLoaded most Gives (Ok loaded) =
+    (rows : List (List Lit)) × Gives (Ok rows) × IsLoaded most rows loaded
+GivesLoaded most Gives (Err fault) = Gives (Err fault)

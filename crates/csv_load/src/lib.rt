@@ -6,7 +6,7 @@ pub mod laws;
 mod loading;
 mod records;
 
-pub use loading::{LoadFault, MAX_LOAD_BYTES, load};
+pub use loading::{LoadFault, Loaded, MAX_LOAD_BYTES, load};
 
 #[cfg(test)]
 mod tests;

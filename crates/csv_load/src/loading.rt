@@ -1,7 +1,8 @@
 //! The rows of a body.
-ghost use Rattle.std.specs.Prelude.{ℕ, None, Some, List, length};
+ghost use Rattle.std.specs.Prelude.{◌≡◌, ◌+◌, ◌++◌, [], ◌∷◌, ℕ, None, Some, IfOk, List, length};
 ghost use Rattle.csv.specs.Records.{fields_of};
-ghost use Rattle.csv_load.specs.Loading.{BodyGives, IsWhole, OrMemory};
+ghost use Rattle.schema_types.specs.declared.Lit.{Lit};
+ghost use Rattle.csv_load.specs.Loading.{BodyGives, GivesLoaded, IsLoaded, IsWhole, OrMemory};
 ghost use Rattle.csv_load.specs.Loading.{RecordGives, RecordsGive, TableGives};
 ghost use Rattle.csv_load.specs.Between.{IsBetween, Takes};
 
@@ -36,17 +37,46 @@ pub enum LoadFault {
     Memory(AllocError),
 }
 
-/// The rows of literals that a body of CSV gives. The first record lists the names of the columns,
-/// and the others are the rows. The first refusal is answered, record by record and then column by
-/// column. A byte order mark at the beginning is passed over.
-pub fn load(alloc: Global, schema: &Schema, bytes: &[u8]) -> Result<Items<Items<Lit>>, LoadFault>
-    ensures { OrMemory (BodyGives schema.now bytes.now) result }
+/// What a body gives.
+#[derive(Debug, Drop)]
+pub enum Loaded {
+    /// Its rows.
+    Rows(Items<Items<Lit>>),
+    /// More rows than were to be kept: how many.
+    Many(u64),
+}
+
+impl Loaded {
+    // What is loaded with one more row, which has this number.
+    fn with_row(self, row: Items<Lit>, number: u64, most: u64) -> Result<Loaded, AllocError>
+        ensures { (rows : List (List Lit)) → IsLoaded most rows self → length rows + 1 ≡ number
+            → IfOk result (IsLoaded most (rows ++ row ∷ [])) }
+    {
+        if number > most {
+            return Ok(Loaded::Many(number));
+        }
+        match self {
+            Loaded::Rows(mut rows) => {
+                rows.push(row)?;
+                Ok(Loaded::Rows(rows))
+            }
+            Loaded::Many(_) => Ok(Loaded::Many(number)),
+        }
+    }
+}
+
+/// The rows of literals that a body of CSV gives, or their number if there are more than `most`.
+/// The first record lists the names of the columns, and the others are the rows. The first refusal
+/// is answered, record by record and then column by column. A byte order mark at the beginning is
+/// passed over.
+pub fn load(alloc: Global, schema: &Schema, bytes: &[u8], most: u64) -> Result<Loaded, LoadFault>
+    ensures { OrMemory (GivesLoaded most (BodyGives schema.now bytes.now)) result }
 {
     if bytes.len() > MAX_LOAD_BYTES {
         return Err(LoadFault::LimitBytes);
     }
     let mut reader = reader_of(alloc, bytes);
-    load_table(alloc, schema, &mut reader)
+    load_table(alloc, schema, &mut reader, most)
 }
 
 /// The rows after the header.
@@ -54,13 +84,14 @@ fn load_table<'a>(
     alloc: Global,
     schema: &Schema,
     reader: &mut Reader<&'a [u8]>,
-) -> Result<Items<Items<Lit>>, LoadFault>
+    most: u64,
+) -> Result<Loaded, LoadFault>
     ensures { (all : List (List (List ℕ))) → IsBetween reader.old None all
-        → OrMemory (TableGives schema.now all) result }
+        → OrMemory (GivesLoaded most (TableGives schema.now all)) result }
 {
     let mut header = ByteRecord::new(alloc);
     match read_first(reader, &mut header) {
-        Next::Fields => load_under(alloc, schema, &header, reader),
+        Next::Fields => load_under(alloc, schema, &header, reader, most),
         Next::Memory => Err(LoadFault::Memory(AllocError)),
         Next::End | Next::Bad => Err(LoadFault::Header),
     }
@@ -72,15 +103,16 @@ fn load_under<'a>(
     schema: &Schema,
     header: &ByteRecord,
     reader: &mut Reader<&'a [u8]>,
-) -> Result<Items<Items<Lit>>, LoadFault>
+    most: u64,
+) -> Result<Loaded, LoadFault>
     ensures { (all : List (List (List ℕ)))
         → Takes (length (fields_of header.now)) all (fields_of header.now) reader.old
-        → OrMemory (TableGives schema.now all) result }
+        → OrMemory (GivesLoaded most (TableGives schema.now all)) result }
 {
     if !is_header(schema.columns(), header) {
         return Err(LoadFault::Header);
     }
-    load_rows(alloc, schema, reader)
+    load_rows(alloc, schema, reader, most)
 }
 
 /// The rows that are left.
@@ -88,23 +120,25 @@ fn load_rows<'a>(
     alloc: Global,
     schema: &Schema,
     reader: &mut Reader<&'a [u8]>,
-) -> Result<Items<Items<Lit>>, LoadFault>
+    most: u64,
+) -> Result<Loaded, LoadFault>
     ensures { (rest : List (List (List ℕ))) → IsBetween reader.old (Some (length schema.now)) rest
-        → OrMemory (RecordsGive schema.now 1 rest) result }
+        → OrMemory (GivesLoaded most (RecordsGive schema.now 1 rest)) result }
 {
     let mut fields = StringRecord::new(alloc);
-    let mut rows = Vec::new(alloc);
+    let mut loaded = Loaded::Rows(Items::new(alloc));
     for number in 1..u64::MAX {
         match read_next(reader, &mut fields) {
             Next::Fields => {}
-            Next::End => return Ok(Items::from_vec(rows)),
+            Next::End => return Ok(loaded),
             Next::Bad => return Err(LoadFault::BadRecord(number)),
             Next::Memory => return Err(LoadFault::Memory(AllocError)),
         }
         let row = row_of(alloc, schema, number, &fields)?;
-        if rows.push(row).is_err() {
+        let Ok(more) = loaded.with_row(row, number, most) else {
             return Err(LoadFault::Memory(AllocError));
-        }
+        };
+        loaded = more;
     }
     Err(LoadFault::Memory(AllocError))
 }

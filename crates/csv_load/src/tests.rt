@@ -1,5 +1,5 @@
 //! Worked bodies.
-use crate::{LoadFault, MAX_LOAD_BYTES, load};
+use crate::{LoadFault, Loaded, MAX_LOAD_BYTES, load};
 use schema_types::{Column, Kind, Lit};
 use sqlite_items::Items;
 use std::alloc::{AllocError, Global};
@@ -35,20 +35,28 @@ fn tell_lit(alloc: Global, lit: &Lit, told: &mut Vec<u8>) -> Result<(), AllocErr
     Ok(())
 }
 
-// Writes the rows, or the refusal.
-fn told(alloc: Global, body: &[u8]) -> Result<Vec<u8>, AllocError> {
+// Writes the rows.
+fn tell_rows(alloc: Global, rows: &[Items<Lit>], told: &mut Vec<u8>) -> Result<(), AllocError> {
+    for row in rows {
+        for lit in row.as_slice() {
+            tell_lit(alloc, lit, told)?;
+        }
+        told.push(b';')?;
+    }
+    Ok(())
+}
+
+// Writes the rows, or how many there are if that is more than so many, or the refusal.
+fn told_of(alloc: Global, body: &[u8], most: u64) -> Result<Vec<u8>, AllocError> {
     let Some(schema) = table(alloc)? else {
         return Err(AllocError);
     };
     let mut told = Vec::new(alloc);
-    match load(alloc, &schema, body) {
-        Ok(rows) => {
-            for row in rows.as_slice() {
-                for lit in row.as_slice() {
-                    tell_lit(alloc, lit, &mut told)?;
-                }
-                told.push(b';')?;
-            }
+    match load(alloc, &schema, body, most) {
+        Ok(Loaded::Rows(rows)) => tell_rows(alloc, rows.as_slice(), &mut told)?,
+        Ok(Loaded::Many(count)) => {
+            let text = format!(in alloc; "{count} rows")?;
+            told.extend_from_slice(text.as_bytes())?;
         }
         Err(fault) => {
             let text = refusal(alloc, fault)?;
@@ -56,6 +64,10 @@ fn told(alloc: Global, body: &[u8]) -> Result<Vec<u8>, AllocError> {
         }
     }
     Ok(told)
+}
+
+fn told(alloc: Global, body: &[u8]) -> Result<Vec<u8>, AllocError> {
+    told_of(alloc, body, 1_000)
 }
 
 fn refusal(alloc: Global, fault: LoadFault) -> Result<String, AllocError> {
@@ -108,6 +120,22 @@ fn refusals(rt: HostRuntime) -> Result<(), Fail> {
     ];
     for (body, want) in cases {
         assert_eq!(rt; told(rt.alloc(), body)?.as_slice(), want);
+    }
+    Ok(())
+}
+
+#[test]
+fn more_rows(rt: HostRuntime) -> Result<(), Fail> {
+    let cases: [(u64, &[u8], &[u8]); 6] = [
+        (2, b"v,s\n1,a\n2,b\n", b"1|a|;2|b|;"),
+        (2, b"v,s\n1,a\n2,b\n3,c\n", b"3 rows"),
+        (2, b"v,s\n1,a\n2,b\n3,c\n4,d\n5,e\n", b"5 rows"),
+        (0, b"v,s\n", b""),
+        (0, b"v,s\n1,a\n", b"1 rows"),
+        (2, b"v,s\n1,a\n2,b\n3,c\n4,d\nx,e\n6\n", b"badcell 5 0"),
+    ];
+    for (most, body, want) in cases {
+        assert_eq!(rt; told_of(rt.alloc(), body, most)?.as_slice(), want);
     }
     Ok(())
 }
