@@ -1,0 +1,9 @@
+pub mod Totals
+pub mod Cuts
+pub mod Means
+pub mod Sketches
+pub mod Refines
+pub mod Gifts
+pub mod Joins
+pub mod LawLemmas
+pub mod WorkedLemmas

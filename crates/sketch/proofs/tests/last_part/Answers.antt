@@ -1,0 +1,8 @@
+use Rattle.std.proofs.Common.{arith}
+use Rattle.sketch.proofs.WorkedLemmas.{three_parts}
+use Rattle.sketch.proofs.Cuts.{each_is_part}
+use Rattle.sketch.specs.Worked.{whole, three}
+use Rattle.sketch.proofs.tests.last_part.Goals as goal
+
+pub refined-requires-clause-part : goal.refined-requires-clause-part
+refined-requires-clause-part c = each_is_part whole three 2 three_parts (omega arith)
