@@ -7,7 +7,7 @@ use Rattle.session_proto.specs.Sessions.{Frame}
 use Rattle.version_store.specs.Histories.{History}
 use Rattle.paql_engine.specs.Laws.{NobodyElse}
 use Rattle.paql_engine.specs.State.{SessionState}
-use Rattle.paql_engine.specs.Steps.{Steps, accepts, turns, asks, refuses as step_refuses, is_not_built, loads, refuses_load}
+use Rattle.paql_engine.specs.Steps.{Steps, accepts, turns, asks, certifies, refuses as step_refuses, is_not_built, loads, refuses_load}
 use Rattle.paql_engine.specs.Transcript.{Transcript, Answers, refuses, performs, lacks}
 
 -- no more commits are a session's own than it sees
@@ -18,6 +18,7 @@ step_counted : (history : History) (old : SessionState) (t : Statement) (body : 
 step_counted history old t body reply new (accepts row) = omega (arith, row.commits.rose, row.commits.own)
 step_counted history old t body reply new (turns row) = omega (arith, row.becomes.sees.later, row.becomes.own)
 step_counted history old t body reply new (asks row) = omega (arith, row.becomes.sees.later, row.becomes.own)
+step_counted history old t body reply new (certifies row) = omega (arith, row.stays.sees.later, row.stays.own)
 step_counted history old t body reply new (step_refuses row) = omega (arith, row.stays.sees.later, row.stays.own)
 step_counted history old t body reply new (is_not_built row) = omega (arith, row.stays.sees.later, row.stays.own)
 step_counted history old t body reply new (loads row) = omega (arith, row.commits.rose, row.commits.own)

@@ -7,7 +7,7 @@ use Rattle.version_store.specs.declared.changes.Change.{Change}
 use Rattle.paql_engine.specs.Laws.{LongerHistory}
 use Rattle.paql_engine.specs.Loading.{insert_of}
 use Rattle.paql_engine.specs.State.{SessionState, seen_of}
-use Rattle.paql_engine.specs.Steps.{Queue, Sees, Commits, Becomes, accepts, turns, asks, refuses, is_not_built, loads, refuses_load}
+use Rattle.paql_engine.specs.Steps.{Queue, Sees, Commits, Becomes, accepts, turns, asks, certifies, refuses, is_not_built, loads, refuses_load}
 
 seen_longer : (history more : History) (old new : SessionState) → Sees history old new → seen_of (history ++ more) new ≡ seen_of history new
 seen_longer history more old new sees = take-append-le new.seen history more sees.within
@@ -63,6 +63,11 @@ longer history more old new t body reply (asks row) =
       there = rw same row.there;
       solves = rw same row.solves;
     })
+longer history more old new t body reply (certifies row) = certifies (record {
+  is = row.is;
+  stays = becomes_longer history more old old.queue old.kept new row.stays;
+  shown = row.shown;
+})
 longer history more old new t body reply (refuses row) =
     let same = seen_longer history more old new row.stays.sees in
     refuses (record {

@@ -6,6 +6,7 @@ pub mod Rows
 pub mod Asked
 pub mod MadeReady
 pub mod Columns
+pub mod ManyRows
 pub mod LoadedRows
 pub mod Serving
 pub mod Framing

@@ -1,5 +1,5 @@
 -- What a LOAD does to a session, over what its vault holds.
-use Rattle.std.proofs.Common.{◌≡◌, ℕ, suc, List, [], ◌∷◌, ◌++◌, length, Option, Some, None, Result, Ok, Err, inl, inr, refl, sym, ap, ◌∙◌, ◌⊎◌, subst, append_assoc, true, arith}
+use Rattle.std.proofs.Common.{◌≡◌, ℕ, suc, ◌+◌, List, [], ◌∷◌, ◌++◌, length, Option, Some, None, Result, Ok, Err, inl, inr, refl, sym, ap, ◌∙◌, ◌⊎◌, subst, append_assoc, true, arith}
 use Rattle.std.specs.Prelude.{is_some, IfOk, slice_get}
 use Rattle.std.specs.declared.alloc.AllocError.{AllocError}
 use Rattle.paql_ast.specs.declared.statements.Statement.{Statement}
@@ -14,18 +14,19 @@ use Rattle.snapshots.specs.States.{State}
 use Rattle.snapshots.specs.declared.snapshot.Snapshot.{Snapshot}
 use Rattle.snapshots.specs.declared.tables.Table.{Table}
 use Rattle.version_store.specs.Answers.{IsMemory, shown}
-use Rattle.version_store.specs.Histories.{History, states_of, replay, commit_faults, row_count}
+use Rattle.version_store.specs.Histories.{History, states_of, new_version, replay, commit_faults, row_count}
 use Rattle.version_store.specs.Vaults.{Holding, IsPrefix, Sees, Accepts as Joins, Refused as Declined}
 use Rattle.version_store.specs.declared.changes.Change.{Change}
 use Rattle.version_store.specs.declared.changes.Change.TheVariants as changes
 use Rattle.version_store.specs.declared.faults.CommitFault.{CommitFault}
 use Rattle.version_store.specs.declared.store.Committed.{Committed}
 use Rattle.version_store.proofs.Keeping.{last_shown}
+use Rattle.version_store.proofs.Longer.{versions_of}
 use Rattle.paql_engine.specs.Loading.{RefusesBody, RefusesLoad, insert_of, in_transaction, in_rows, in_insert}
 use Rattle.csv_load.specs.Loading.{OrMemory}
 use Rattle.csv_load.specs.declared.loading.LoadFault.{LoadFault}
 use Rattle.csv_load.specs.declared.loading.LoadFault.TheVariants as load_faults
-use Rattle.paql_engine.specs.LoadSteps.{IsGiven, Inserts, LoadsTo, IsMemoryFault, accepted, declined}
+use Rattle.paql_engine.specs.LoadSteps.{IsGiven, AreMany, many_faults, Inserts, LoadsTo, IsMemoryFault, accepted, declined}
 use Rattle.paql_engine.specs.Refused.{commit_cause}
 use Rattle.paql_engine.specs.Replied.{reply_of}
 use Rattle.paql_engine.specs.Showing.{IsToldAs, IsToldOf, RefusedSo, RefusesCommit}
@@ -35,6 +36,7 @@ use Rattle.paql_engine.specs.declared.accepted.Accepted.TheVariants.{Loaded}
 use Rattle.paql_engine.specs.declared.session.Answer.{Answer}
 use Rattle.paql_engine.specs.declared.session.Answer.TheVariants.{Accepted}
 use Rattle.paql_engine.proofs.Columns.{columns_stay}
+use Rattle.paql_engine.proofs.ManyRows.{given_fit, many_due}
 use Rattle.paql_engine.proofs.Rows.{becomes_over, sees_same, take_all, length_more, longer_prefix, told_of}
 
 -- a LOAD over a vault that holds this before and that after it, which leaves what the session itself keeps
@@ -169,6 +171,27 @@ body_refused before after session name body snapshot due refusal (Ok answer) fre
     load_refused before after session name body due answer sees
     (subst (λ (queue : Queue). RefusesLoad after.held name body queue due) (sym free) (in_rows due on_last)) (told_of due refusal answer told says)
 body_refused before after session name body snapshot due refusal (Err error) free sees looked why told says = tt
+
+-- more rows than a commit may insert
+many_refused : (history : History) (name : List ℕ) (body : Content) (version count : ℕ) (fault : CommitFault) → version ≡ length history → AreMany (replay history).tables name body count
+    → slice_get (many_faults (version + 1) count) 0 ≡ Some fault → RefusesLoad history name body None (commit_cause fault)
+many_refused history name body version count fault is many first =
+    let columns = many.given.columns in
+    let next : new_version (states_of history) ≡ version + 1 = versions_of history ∙ ap (λ (n : ℕ). n + 1) (sym is) in
+    let due : slice_get (many_faults (new_version (states_of history)) (length many.rows)) 0 ≡ Some fault = rw (next, sym many.number) first in
+    in_insert columns many.rows fault many.given.there many.given.gives
+    (many_due (states_of history) name columns many.rows fault many.given.there (given_fit columns body many.rows many.given.gives) due)
+
+pub many_loaded : (before after : Holding) (session : OwnSession) (name : List ℕ) (body : Content) (snapshot : Snapshot) (count : ℕ) (fault : CommitFault) (result : Result Answer AllocError)
+    → session.queue ≡ None → Sees before after → snapshot ≡ shown after.held (length after.held) → AreMany snapshot.tables name body count
+    → slice_get (many_faults (snapshot.version + 1) count) 0 ≡ Some fault → IfOk result (RefusesCommit fault) → IfOk result (LoadsOver before session name body after)
+many_loaded before after session name body snapshot count fault (Ok answer) free sees looked many first told =
+    let on_last = subst (λ (tables : List Table). AreMany tables name body count) (last_tables after.held snapshot looked) many in
+    let number : snapshot.version ≡ length after.held = ap (λ (s : Snapshot). s.version) looked in
+    let due = many_refused after.held name body snapshot.version count fault number on_last first in
+    load_refused before after session name body (commit_cause fault) answer sees
+    (subst (λ (queue : Queue). RefusesLoad after.held name body queue (commit_cause fault)) (sym free) due) told.1
+many_loaded before after session name body snapshot count fault (Err error) free sees looked many first told = tt
 
 opened : (history : History) (name : List ℕ) (body : Content) (queue : Queue) → is_some queue ≡ true → RefusesLoad history name body queue refusals.in_transaction
 opened history name body None is = absurd (cc is)

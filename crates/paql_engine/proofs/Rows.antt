@@ -15,6 +15,8 @@ use Rattle.session_proto.specs.declared.refusals.BindFault.TheVariants as bindin
 use Rattle.session_proto.specs.declared.refusals.Refusal.{Refusal as Told}
 use Rattle.session_proto.specs.declared.refusals.Refusal.TheVariants.{Bind}
 use Rattle.snapshots.specs.declared.snapshot.Snapshot.{Snapshot}
+use Rattle.cert_text.specs.Certs.{cert_text}
+use Rattle.query_answer.specs.Kept.{kept_cert}
 use Rattle.query_answer.specs.declared.kept.Kept.{Kept}
 use Rattle.version_store.specs.Answers.{IsMemory, state_at}
 use Rattle.version_store.specs.Histories.{History, states_of, replay, commit_faults, row_count}
@@ -24,13 +26,13 @@ use Rattle.version_store.specs.declared.changes.Change.{Change}
 use Rattle.version_store.specs.declared.faults.CommitFault.{CommitFault}
 use Rattle.version_store.specs.declared.store.Committed.{Committed}
 use Rattle.version_store.specs.declared.store.VaultFault.TheVariants as vault
-use Rattle.paql_engine.specs.Performed.{change_of, query_of, is_exact, is_load, is_turn}
+use Rattle.paql_engine.specs.Performed.{change_of, query_of, is_exact}
 use Rattle.paql_engine.specs.Queries.{Solves, RefusesQuery}
 use Rattle.paql_engine.specs.Refused.{commit_cause}
 use Rattle.paql_engine.specs.Replied.{reply_of, shown_as}
-use Rattle.paql_engine.specs.Showing.{IsToldAs, RefusedSo, RefusesCommit, IsToldOf, StepsTo, Misses, Looks}
+use Rattle.paql_engine.specs.Showing.{IsToldAs, RefusedSo, RefusesCommit, IsToldOf, StepsTo, Misses, Looks, is_changing}
 use Rattle.paql_engine.specs.State.{SessionData, OwnSession, Grows, session_over}
-use Rattle.paql_engine.specs.Steps.{Steps, Queue, Becomes, Makes, Moves, Refuses, IsThere, accepted as shown_to, tables_of, version_of, other, nameless, alone, whole, begins, rolls_back, queues, at_begin, at_rollback, in_commit, in_version, in_query, accepts, turns, asks, refuses, is_not_built}
+use Rattle.paql_engine.specs.Steps.{Steps, Queue, Becomes, Makes, Moves, Refuses, IsThere, IsOther, accepted as shown_to, tables_of, version_of, certificate_of, columnless, nameless, alone, whole, begins, rolls_back, queues, at_begin, at_rollback, in_commit, in_version, in_query, accepts, turns, asks, certifies, refuses, is_not_built}
 use Rattle.paql_engine.specs.declared.accepted.Accepted.{Accepted as AcceptedAs}
 use Rattle.paql_engine.specs.declared.accepted.Accepted.TheVariants.{Transaction}
 use Rattle.paql_engine.specs.declared.session.Answer.{Answer}
@@ -244,10 +246,50 @@ rolls_back_now vault old (Some list) kept reply is opened shown =
 -- ---- statements that aren't performed
 
 pub row_other : (vault : Holding) (session : OwnSession) (t : Statement) (answer : Answer)
-    → change_of t ≡ None → query_of t ≡ None → is_load t ≡ false → is_turn t ≡ false → reply_of answer ≡ refusal_of not_built
+    → IsOther vault.held session.queue t → reply_of answer ≡ refusal_of not_built
     → StepsOver vault session t vault session answer
-row_other vault session t answer no_change no_query no_load no_turn shown body =
-    is_not_built (record { stays = becomes_over vault vault session.queue session.queue session.kept session.kept (sees_same vault); is = other no_change no_query no_load no_turn; shown = shown })
+row_other vault session t answer other shown body =
+    let same = take_all vault.held in
+    is_not_built (record { stays = becomes_over vault vault session.queue session.queue session.kept session.kept (sees_same vault); is = rw same other; shown = shown })
+
+pub no_column : (history : History) (queue : Queue) (t : Statement) → is_changing t ≡ true → change_of t ≡ None → IsOther history queue t
+no_column history queue (statements.Create table []) is none = columnless table refl
+no_column history queue (statements.Create table (column ∷ columns)) is none = absurd (cc none)
+no_column history queue (statements.Insert table rows) is none = absurd (cc none)
+no_column history queue (statements.Update table sets filter) is none = absurd (cc none)
+no_column history queue (statements.Delete table filter) is none = absurd (cc none)
+no_column history queue (statements.Partition table columns size radius) is none = absurd (cc none)
+no_column history queue (statements.Vacuum version) is none = absurd (cc none)
+no_column history queue (statements.Load table bytes) is none = absurd (cc is)
+no_column history queue (statements.Query query) is none = absurd (cc is)
+no_column history queue statements.Begin is none = absurd (cc is)
+no_column history queue statements.Commit is none = absurd (cc is)
+no_column history queue statements.Rollback is none = absurd (cc is)
+no_column history queue statements.Certificate is none = absurd (cc is)
+
+-- ---- CERTIFICATE
+
+row_certifies : (vault : Holding) (session : OwnSession) (answer : Answer) → reply_of answer ≡ certificate_of session.kept
+    → StepsOver vault session statements.Certificate vault session answer
+row_certifies vault session answer shown body =
+    certifies (record { is = refl; stays = becomes_over vault vault session.queue session.queue session.kept session.kept (sees_same vault); shown = shown })
+
+kept_is : (old : OwnSession) (queue : Queue) (kept known : Option Kept) → own queue kept ≡ old → kept ≡ known → old.kept ≡ known
+kept_is old queue kept known is same = ap (λ (session : OwnSession). session.kept) (sym is) ∙ same
+
+pub uncertified : (vault : Holding) (old : OwnSession) (queue : Queue) (kept : Option Kept) (result : Result Answer AllocError)
+    → own queue kept ≡ old → kept ≡ None → IfOk result (λ (answer : Answer). reply_of answer ≡ refusal_of refusals.no_certificate)
+    → IfOk result (StepsOver vault old statements.Certificate vault old)
+uncertified vault old queue kept (Ok answer) is none shown =
+    row_certifies vault old answer (shown ∙ sym (ap certificate_of (kept_is old queue kept None is none)))
+uncertified vault old queue kept (Err error) is none shown = tt
+
+pub certified : (vault : Holding) (old : OwnSession) (queue : Queue) (kept : Option Kept) (held : Kept) (bytes : List ℕ) (reply : ReplyData)
+    → own queue kept ≡ old → kept ≡ Some held → bytes ≡ cert_text (kept_cert held.problem held.claim held.pairs held.tree)
+    → reply ≡ answers.certificate bytes → StepsOver vault old statements.Certificate vault old (Made reply)
+certified vault old queue kept held bytes reply is some written shown =
+    row_certifies vault old (Made reply)
+    (shown ∙ ap answers.certificate written ∙ sym (ap certificate_of (kept_is old queue kept (Some held) is some)))
 
 -- ---- queries
 
@@ -257,9 +299,6 @@ exact_if query false is = absurd (cc is)
 
 pub exactly : (query : Query) → IsTrue (is_exact query.method) → query_of (statements.Query query) ≡ Some query
 exactly query is = exact_if query (is_exact query.method) is
-
-pub inexact_is : (query : Query) → is_exact query.method ≡ false → query_of (statements.Query query) ≡ None
-inexact_is query is = ap (λ (b : Bool). if b then Some query else None) is
 
 -- what a version shows that was asked for, or the last
 pub record Shows (history : History) (version : Option ℕ) (snapshot : Snapshot) : Type 0 where
@@ -324,22 +363,6 @@ pub performs : (old new : SessionData) (t s : Statement) (body : Content) (resul
     → IfOk result (λ (answer : Answer). Steps new.history old.state s body (reply_of answer) new.state)
 performs old new t s body (Ok answer) is steps = subst (λ (u : Statement). Steps new.history old.state u body (reply_of answer) new.state) (sym is) (steps body)
 performs old new t s body (Err error) is steps = tt
-
--- what isn't one of these is no turn and no query
-pub rest_none : (t : Statement) → ¬ (t ≡ statements.Begin) → ¬ (t ≡ statements.Commit) → ¬ (t ≡ statements.Rollback) → ((query : Query) → ¬ (t ≡ statements.Query query))
-    → (is_turn t ≡ false) × (query_of t ≡ None)
-rest_none statements.Begin no_begin no_commit no_rollback no_query = absurd (no_begin refl)
-rest_none statements.Commit no_begin no_commit no_rollback no_query = absurd (no_commit refl)
-rest_none statements.Rollback no_begin no_commit no_rollback no_query = absurd (no_rollback refl)
-rest_none (statements.Query query) no_begin no_commit no_rollback no_query = absurd (no_query query refl)
-rest_none (statements.Create table columns) no_begin no_commit no_rollback no_query = (refl, refl)
-rest_none (statements.Insert table rows) no_begin no_commit no_rollback no_query = (refl, refl)
-rest_none (statements.Load table bytes) no_begin no_commit no_rollback no_query = (refl, refl)
-rest_none (statements.Update table sets filter) no_begin no_commit no_rollback no_query = (refl, refl)
-rest_none (statements.Delete table filter) no_begin no_commit no_rollback no_query = (refl, refl)
-rest_none (statements.Partition table columns size radius) no_begin no_commit no_rollback no_query = (refl, refl)
-rest_none (statements.Vacuum version) no_begin no_commit no_rollback no_query = (refl, refl)
-rest_none statements.Certificate no_begin no_commit no_rollback no_query = (refl, refl)
 
 -- ---- a change, whatever statement it is of
 

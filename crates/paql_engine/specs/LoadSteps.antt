@@ -1,6 +1,6 @@
 -- Private: `src/loading.rt`, and `load` and `insert` in `src/session.rt`.
 -- What the parts of a LOAD find and do.
-use Rattle.std.specs.Prelude.{◌≡◌, ℕ, IfOk, List, Option, Ok, Some, Result}
+use Rattle.std.specs.Prelude.{◌≡◌, ◌<◌, ℕ, IfOk, List, ◌++◌, length, Option, Ok, Some, Result}
 use Rattle.std.specs.declared.alloc.AllocError.{AllocError}
 use Rattle.csv_load.specs.declared.loading.LoadFault.{LoadFault}
 use Rattle.csv_load.specs.declared.loading.LoadFault.TheVariants as faults
@@ -11,8 +11,11 @@ use Rattle.schema_types.specs.declared.Lit.{Lit}
 use Rattle.session_proto.specs.Input.{Content}
 use Rattle.session_proto.specs.Refusals.{Refusal}
 use Rattle.snapshots.specs.declared.tables.Table.{Table}
+use Rattle.version_store.specs.Histories.{above}
 use Rattle.version_store.specs.Vaults.{Holding, Accepts, Refused}
 use Rattle.version_store.specs.declared.faults.CommitFault.{CommitFault}
+use Rattle.version_store.specs.declared.faults.CommitKind.TheVariants.{LimitVersions, LimitCommit}
+use Rattle.version_store.specs.declared.limits.TheConstants.{MAX_COMMIT_ROWS, MAX_VERSION}
 use Rattle.version_store.specs.declared.store.Committed.{Committed}
 use Rattle.paql_engine.specs.Loading.{columns_in, Gives, RefusesBody, insert_of, load_cause}
 use Rattle.paql_engine.specs.Replied.{reply_of}
@@ -41,9 +44,23 @@ pub record IsGiven (tables : List Table) (name : List ℕ) (body : Content) (row
   pub there : columns_in tables name ≡ Some columns
   pub gives : Gives columns body (Ok rows)
 
+-- the body gives so many rows, which are more than a commit may insert
+pub record AreMany (tables : List Table) (name : List ℕ) (body : Content) (count : ℕ)
+    : Type 0 where
+  pub rows : List (List Lit)
+  pub given : IsGiven tables name body rows
+  pub more : MAX_COMMIT_ROWS < length rows
+  pub number : count ≡ length rows
+
+-- the faults of a commit of so many rows that fit, after which the version would be this one
+abbrev pub many_faults : ℕ → ℕ → List CommitFault
+many_faults version count =
+    above MAX_VERSION version LimitVersions ++ above MAX_COMMIT_ROWS count LimitCommit
+
 -- what is found of a body for a table of a version
 abbrev pub Finds : List Table → List ℕ → Content → Found → Type 0
 Finds tables name body (founds.Rows rows) = IsGiven tables name body rows
+Finds tables name body (founds.Many count) = AreMany tables name body count
 Finds tables name body (founds.Refused told) =
     (due : Refusal) × RefusesBody tables name body due × IsToldAs due told
 

@@ -1,5 +1,5 @@
--- Which statements are performed so far, by their trees: all but CERTIFICATE and queries by
--- SKETCHREFINE. A CREATE TABLE without a column, which no text has, is not performed.
+-- Which statements are performed so far, by their trees: all but queries by SKETCHREFINE. A CREATE
+-- TABLE without a column, which no text has, is not performed.
 use Rattle.std.specs.Prelude.{Bool, true, false, [], ◌∷◌, Option, Some, None, if◌then◌else◌}
 use Rattle.paql_ast.specs.declared.queries.Method.{Method}
 use Rattle.paql_ast.specs.declared.queries.Method.TheVariants.{Direct, SketchRefine}
@@ -32,15 +32,3 @@ is_exact (Some SketchRefine) = false
 abbrev pub query_of : Statement → Option Query
 query_of (statements.Query query) = if is_exact query.method then Some query else None
 query_of t = None
-
--- the statement is a LOAD
-abbrev pub is_load : Statement → Bool
-is_load (statements.Load table bytes) = true
-is_load t = false
-
--- the statement opens or closes a transaction
-abbrev pub is_turn : Statement → Bool
-is_turn statements.Begin = true
-is_turn statements.Commit = true
-is_turn statements.Rollback = true
-is_turn t = false

@@ -1,4 +1,3 @@
--- Private: `src/preparing.rt`.
 -- What a query made ready is, and why a query is refused.
 use Rattle.std.specs.Prelude.{◌≡◌, ◌⊎◌, ◌<◌, ℕ, List, [], length, Option, None, Some}
 use Rattle.std.specs.Prelude.{Result, Ok, Err}

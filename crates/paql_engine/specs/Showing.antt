@@ -1,10 +1,11 @@
 -- Private: `src/refused.rt`, `src/asking.rt`, `src/accepted.rt` and `src/session.rt`.
 -- Refusals as the code tells them, and what a session's private steps do.
-use Rattle.std.specs.Prelude.{◌≡◌, ◌⊎◌, ◌<◌, ℕ, IfOk, Result, Ok, Err, List, length, MatchOption, Option, Some, None}
+use Rattle.std.specs.Prelude.{◌≡◌, ◌⊎◌, ◌<◌, ℕ, Bool, true, false, IfOk, Result, Ok, Err, List, length, MatchOption, Option, Some, None}
 use Rattle.std.specs.Str.{IsUtf8}
 use Rattle.std.specs.declared.alloc.AllocError.{AllocError}
 use Rattle.paql_ast.specs.declared.queries.Query.{Query}
 use Rattle.paql_ast.specs.declared.statements.Statement.{Statement}
+use Rattle.paql_ast.specs.declared.statements.Statement.TheVariants as statements
 use Rattle.session_proto.specs.Causes.{cause}
 use Rattle.session_proto.specs.Input.{Content}
 use Rattle.session_proto.specs.Refusals.{Refusal, refusal_of, not_built}
@@ -77,3 +78,13 @@ Looks history version (Err fault) = Misses history version fault
 abbrev pub StepsTo : SessionData → Statement → SessionData → Answer → Type 0
 StepsTo old t new answer =
     (body : Content) → Steps new.history old.state t body (reply_of answer) new.state
+
+-- the statement changes tables, and isn't a LOAD
+abbrev pub is_changing : Statement → Bool
+is_changing (statements.Create table columns) = true
+is_changing (statements.Insert table rows) = true
+is_changing (statements.Update table sets filter) = true
+is_changing (statements.Delete table filter) = true
+is_changing (statements.Partition table columns size radius) = true
+is_changing (statements.Vacuum version) = true
+is_changing t = false

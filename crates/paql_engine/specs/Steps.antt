@@ -15,6 +15,8 @@ use Rattle.snapshots.specs.declared.tables.Table.{Table}
 use Rattle.version_store.specs.declared.changes.Change.{Change}
 use Rattle.version_store.specs.declared.changes.Change.TheVariants as changes
 use Rattle.version_store.specs.declared.faults.CommitFault.{CommitFault}
+use Rattle.cert_text.specs.Certs.{cert_text}
+use Rattle.query_answer.specs.Kept.{kept_cert}
 use Rattle.query_answer.specs.declared.kept.Kept.{Kept}
 use Rattle.session_proto.specs.Input.{Content}
 use Rattle.session_proto.specs.Answers as answers
@@ -22,7 +24,7 @@ use Rattle.session_proto.specs.Refusals as refusals
 use Rattle.session_proto.specs.Refusals.{Refusal, refusal_of, not_built}
 use Rattle.session_proto.specs.Replies.{ReplyData}
 use Rattle.paql_engine.specs.Loading.{columns_in, Gives, RefusesLoad, insert_of}
-use Rattle.paql_engine.specs.Performed.{change_of, query_of, is_load, is_turn}
+use Rattle.paql_engine.specs.Performed.{change_of, query_of, is_exact}
 use Rattle.paql_engine.specs.Queries.{Solves, RefusesQuery}
 use Rattle.paql_engine.specs.Refused.{commit_cause, name_in}
 use Rattle.paql_engine.specs.State.{SessionState, seen_of}
@@ -107,6 +109,14 @@ abbrev pub IsThere : History → Option ℕ → Type 0
 IsThere history None = Unit {0}
 IsThere history (Some asked) = Reaches history asked
 
+-- ---- certificates
+
+-- the reply to CERTIFICATE: what is kept of the last query that was answered, as text
+abbrev pub certificate_of : Option Kept → ReplyData
+certificate_of None = refusal_of refusals.no_certificate
+certificate_of (Some kept) = answers.certificate
+    (cert_text (kept_cert kept.problem kept.claim kept.pairs kept.tree))
+
 -- ---- refusals
 
 -- why a statement is refused, by the commits that the session has seen and the open transaction
@@ -131,11 +141,12 @@ pub data Refuses (history : History) : Queue → Statement → Refusal → Type 
       → query_of t ≡ Some query → IsThere history query.version
       → RefusesQuery (tables_of history query) query cause → Refuses history queue t cause
 
--- The statement is none that is performed; or it is refused for a name that is no text, which no
--- statement of a text has.
+-- What isn't performed: a query by SKETCHREFINE, a CREATE TABLE without a column, which no text has,
+-- or a statement that is refused for a name that is no text, which no statement of a text has.
 pub data IsOther (history : History) (queue : Queue) (t : Statement) : Type 0 where
-  other : change_of t ≡ None → query_of t ≡ None → is_load t ≡ false → is_turn t ≡ false
+  by_sketch : (query : Query) → t ≡ statements.Query query → is_exact query.method ≡ false
       → IsOther history queue t
+  columnless : (table : List ℕ) → t ≡ statements.Create table [] → IsOther history queue t
   nameless : (cause : Refusal) → Refuses history queue t cause → ¬ IsUtf8 (name_in cause)
       → IsOther history queue t
 
@@ -166,6 +177,13 @@ pub record Asks (history : History) (old : SessionState) (t : Statement) (reply 
   pub there : IsThere (seen_of history new) query.version
   pub solves : Solves (tables_of (seen_of history new) query)
       (version_of (seen_of history new) query) query reply kept
+
+-- CERTIFICATE changes nothing
+pub record Certifies (history : History) (old : SessionState) (t : Statement)
+    (reply : ReplyData) (new : SessionState) : Type 0 where
+  pub is : t ≡ statements.Certificate
+  pub stays : Stays history old new
+  pub shown : reply ≡ certificate_of old.kept
 
 pub record IsRefused (history : History) (old : SessionState) (t : Statement)
     (reply : ReplyData) (new : SessionState) : Type 0 where
@@ -220,6 +238,7 @@ pub data Steps (history : History) (old : SessionState) (t : Statement) (body : 
   accepts : Accepts history old t reply new → Steps history old t body reply new
   turns : Turns history old t reply new → Steps history old t body reply new
   asks : Asks history old t reply new → Steps history old t body reply new
+  certifies : Certifies history old t reply new → Steps history old t body reply new
   refuses : IsRefused history old t reply new → Steps history old t body reply new
   is_not_built : IsNotBuilt history old t reply new → Steps history old t body reply new
   loads : Loads history old t body reply new → Steps history old t body reply new

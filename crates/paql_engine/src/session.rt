@@ -1,5 +1,5 @@
 //! A session over a vault: the changes of the transaction that is open, and what is kept of the last answer.
-ghost use Rattle.std.specs.Prelude.{◌≡◌, ◌≢◌, ◌+◌, [], ◌∷◌, ◌++◌, IfOk, OnOk, OnErr, Some, None, false, ℕ, List, length};
+ghost use Rattle.std.specs.Prelude.{◌≡◌, ◌≢◌, ◌+◌, [], ◌∷◌, ◌++◌, IfOk, OnOk, OnErr, Some, None, true, ℕ, List, length};
 ghost use Rattle.paql_ast.specs.declared.queries.Query.{Query};
 ghost use Rattle.paql_ast.specs.declared.statements.Statement.{Statement};
 ghost use Rattle.paql_ast.specs.declared.statements.Statement.TheVariants as statements;
@@ -12,10 +12,10 @@ ghost use Rattle.version_store.specs.Legal.{HasColumns};
 ghost use Rattle.version_store.specs.Vaults.{Holding, Sees, holding};
 ghost use Rattle.version_store.specs.declared.changes.Change.{Change};
 ghost use Rattle.paql_engine.specs.LoadSteps.{Inserts, LoadsTo};
-ghost use Rattle.paql_engine.specs.Performed.{change_of, query_of, is_exact, is_load, is_turn};
-ghost use Rattle.paql_engine.specs.Showing.{RefusedSo, RefusesCommit, StepsTo, Looks};
+ghost use Rattle.paql_engine.specs.Performed.{change_of, is_exact};
+ghost use Rattle.paql_engine.specs.Showing.{RefusedSo, RefusesCommit, StepsTo, Looks, is_changing};
 ghost use Rattle.paql_engine.specs.State.{Grows, nothing_done, session_over};
-ghost use Rattle.paql_engine.specs.Steps.{Steps};
+ghost use Rattle.paql_engine.specs.Steps.{Steps, IsOther};
 ghost use Rattle.paql_engine.specs.Replied.{reply_of};
 
 use crate::accepted::{Accepted, accepted_as};
@@ -103,20 +103,19 @@ impl Session {
             Statement::Rollback => self.roll_back(alloc),
             Statement::Query(query) => self.ask(alloc, vault, solver, &query),
             Statement::Load { table, .. } => self.load(alloc, vault, table, body),
+            Statement::Certificate => self.certificate(alloc),
             other => self.change_or_pass(alloc, vault, other),
         }
     }
 
-    // A change, or a statement that isn't performed.
+    // A change, or a CREATE TABLE without a column, which isn't performed.
     fn change_or_pass<V: Vault>(
         &mut self,
         alloc: Global,
         vault: &mut V,
         statement: Statement,
     ) -> Result<Answer, AllocError>
-        requires turn { is_turn statement ≡ false }
-        requires query { query_of statement ≡ None }
-        requires load { is_load statement ≡ false }
+        requires { is_changing statement ≡ true }
         ensures ok { IfOk result (StepsTo
             (session_over (holding V.held V.own V.stake vault.old) self.old) statement
             (session_over (holding V.held V.own V.stake vault.new) self.new)) }
@@ -134,8 +133,7 @@ impl Session {
 
     // A statement that isn't performed.
     fn pass_over(&self) -> Answer
-        ensures { (vault : Holding) (t : Statement) → change_of t ≡ None → query_of t ≡ None
-            → is_load t ≡ false → is_turn t ≡ false
+        ensures { (vault : Holding) (t : Statement) → IsOther vault.held self.now.queue t
             → StepsTo (session_over vault self.now) t (session_over vault self.now) result }
     {
         Answer::NotBuilt
@@ -214,6 +212,9 @@ impl Session {
         let snapshot = vault.snapshot()?;
         match loading::find(alloc, &snapshot, &table, body)? {
             loading::Found::Rows(rows) => insert(alloc, vault, table, rows),
+            loading::Found::Many(count) => {
+                refused_commit(alloc, loading::too_many(snapshot.version, count))
+            }
             loading::Found::Refused(refusal) => refused(alloc, refusal),
         }
     }
@@ -267,6 +268,19 @@ impl Session {
         }
         let reply = answers::rolled_back(alloc)?;
         self.queue = None;
+        Ok(Answer::Made(reply))
+    }
+
+    // CERTIFICATE.
+    fn certificate(&self, alloc: Global) -> Result<Answer, AllocError>
+        ensures { (vault : Holding) → IfOk result (StepsTo (session_over vault self.now)
+            statements.Certificate (session_over vault self.now)) }
+    {
+        let Some(kept) = &self.kept else {
+            return unready(alloc, SessionFault::NoCertificate);
+        };
+        let bytes = kept.text(alloc)?;
+        let reply = answers::certificate(alloc, bytes)?;
         Ok(Answer::Made(reply))
     }
 

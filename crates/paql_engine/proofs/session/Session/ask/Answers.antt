@@ -3,15 +3,16 @@ use Rattle.std.specs.Prelude.{IsTrue}
 use Rattle.paql_ast.specs.declared.statements.Statement.TheVariants as statements
 use Rattle.version_store.specs.Vaults.{holding}
 use Rattle.paql_engine.specs.Performed.{is_exact}
+use Rattle.paql_engine.specs.Steps.{by_sketch}
 use Rattle.paql_engine.specs.declared.session.Answer.TheVariants.{Made}
-use Rattle.paql_engine.proofs.Rows.{inexact_is, asked_steps, query_refused, version_refused}
+use Rattle.paql_engine.proofs.Rows.{asked_steps, query_refused, version_refused}
 use Rattle.paql_engine.proofs.session.Session.ask.Goals as goal
 
 pub returns-then-not-is_exact-clause-ok : goal.returns-then-not-is_exact-clause-ok
 returns-then-not-is_exact-clause-ok g c =
     let vault = holding g.V.Vault.held g.V.Vault.own g.V.Vault.stake c.args.vault.now in
     let no : is_exact c.args.query.now.method ≡ false = search rules in
-    c.pass_over.ensures vault (statements.Query c.args.query.now) refl (inexact_is c.args.query.now no) refl refl
+    c.pass_over.ensures vault (statements.Query c.args.query.now) (by_sketch c.args.query.now refl no)
 
 pub returns-in-Err-Unkept-clause-ok : goal.returns-in-Err-Unkept-clause-ok
 returns-in-Err-Unkept-clause-ok g c =

@@ -1,6 +1,6 @@
 use Rattle.std.proofs.Common.{sym, ◌∙◌}
 use Rattle.version_store.specs.Vaults.{holding}
-use Rattle.paql_engine.proofs.Rows.{of_change}
+use Rattle.paql_engine.proofs.Rows.{of_change, no_column}
 use Rattle.paql_engine.proofs.session.Session.change_or_pass.Goals as goal
 
 pub returns-in-Some-clause-ok : goal.returns-in-Some-clause-ok
@@ -12,4 +12,5 @@ returns-in-Some-clause-ok g c =
 pub returns-in-None-clause-ok : goal.returns-in-None-clause-ok
 returns-in-None-clause-ok g c =
     let vault = holding g.V.Vault.held g.V.Vault.own g.V.Vault.stake c.args.vault.now in
-    c.pass_over.ensures vault c.args.statement (sym c.change_of.ensures.value ∙ c.in-None.is) c.requires.query c.requires.load c.requires.turn
+    c.pass_over.ensures vault c.args.statement
+    (no_column vault.held c.args.self.now.queue c.args.statement c.requires (sym c.change_of.ensures.value ∙ c.in-None.is))

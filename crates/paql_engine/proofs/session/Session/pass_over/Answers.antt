@@ -4,4 +4,4 @@ use Rattle.paql_engine.proofs.Rows.{row_other}
 use Rattle.paql_engine.proofs.session.Session.pass_over.Goals as goal
 
 pub returns : goal.returns
-returns c = λ vault t no_change no_query no_load no_turn. row_other vault c.args.self.now t NotBuilt no_change no_query no_load no_turn refl
+returns c = λ vault t other. row_other vault c.args.self.now t NotBuilt other refl

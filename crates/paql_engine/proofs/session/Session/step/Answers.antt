@@ -37,6 +37,11 @@ returns-in-Load-clause-ok g c =
     let after = holding g.V.Vault.held g.V.Vault.own g.V.Vault.stake c.load.new.vault in
     performs_load (session_over before c.args.self.now) (session_over after c.args.self.now) c.in-Load.table c.in-Load.bytes c.args.statement (content_of c.args.body.now) c.load.result c.in-Load.is c.load.ensures.ok
 
+pub returns-in-Certificate-clause-ok : goal.returns-in-Certificate-clause-ok
+returns-in-Certificate-clause-ok g c =
+    let vault = holding g.V.Vault.held g.V.Vault.own g.V.Vault.stake c.args.vault.now in
+    performs (session_over vault c.args.self.now) (session_over vault c.args.self.now) statements.Certificate c.args.statement (content_of c.args.body.now) c.certificate.result c.in-Certificate.is (c.certificate.ensures vault)
+
 pub returns-in_default : goal.returns-in_default
 returns-in_default g c =
     let before = holding g.V.Vault.held g.V.Vault.own g.V.Vault.stake c.args.vault.now in
