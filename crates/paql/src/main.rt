@@ -1,4 +1,5 @@
-//! `paql run` reads statements from standard input and answers them on standard output.
+//! `paql run` reads statements from standard input and answers them on standard output. `paql check` reads statements up to
+//! a query, and then a certificate, and says whether it is valid.
 #![tactic(auto)]
 
 ghost use Rattle.std.specs.Prelude.{◌≡◌, ◌≢◌};

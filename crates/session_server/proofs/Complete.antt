@@ -14,17 +14,17 @@ use Rattle.version_store.specs.Vaults.{Holding}
 use Rattle.session_server.specs.Ends.{EndsWith, IsReadOut, IsWholeScript, IsDoneOrFault}
 
 -- what was read to the end is all that was left
-all_read : (bytes taken : List ℕ) (left_new : Option (List ℕ)) → Consumes (Some bytes) left_new taken → IsAtEnd left_new → taken ≡ bytes
+pub all_read : (bytes taken : List ℕ) (left_new : Option (List ℕ)) → Consumes (Some bytes) left_new taken → IsAtEnd left_new → taken ≡ bytes
 all_read bytes taken None read out = absurd read
 all_read bytes taken (Some rest) read out = sym (append-nil taken) ∙ ap (λ (l : List ℕ). taken ++ l) (sym out) ∙ sym read
 
 -- what was read is a prefix of what was left
-prefix_read : (bytes taken : List ℕ) (left_new : Option (List ℕ)) → Consumes (Some bytes) left_new taken → (more : List ℕ) × (bytes ≡ taken ++ more)
+pub prefix_read : (bytes taken : List ℕ) (left_new : Option (List ℕ)) → Consumes (Some bytes) left_new taken → (more : List ℕ) × (bytes ≡ taken ++ more)
 prefix_read bytes taken None read = absurd read
 prefix_read bytes taken (Some rest) read = (rest, read)
 
 -- a frame that is too long stays so, and no further frame comes
-long_stays : (bytes more rest : List ℕ) (frames : List Frame) → AreFrames IsLoad bytes frames rest → IsOverlong rest
+pub long_stays : (bytes more rest : List ℕ) (frames : List Frame) → AreFrames IsLoad bytes frames rest → IsOverlong rest
     → (after : List ℕ) × AreFrames IsLoad (bytes ++ more) frames after × IsOverlong after
 long_stays bytes more rest frames are long =
     let input : Input = record { left = long.left; awaited = None } in

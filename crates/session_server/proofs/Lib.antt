@@ -1,3 +1,9 @@
 pub mod Writing
 pub mod Running
 pub mod Complete
+pub mod ReadingOn
+pub mod Refusing
+pub mod Scripts
+pub mod Heard
+pub mod Told
+pub mod Lines

@@ -19,15 +19,15 @@ use Rattle.session_server.specs.Ends.{EndsWith, HasCause, IsReadOut}
 
 -- ---- faults
 
-fails_later : (old between now : Shown) → HasNoFault old between → HasFailed between now → HasFailed old now
+pub fails_later : (old between now : Shown) → HasNoFault old between → HasFailed between now → HasFailed old now
 fails_later old between now fine failed = subst (λ (n : ℕ). Rose n now.faults) fine failed
 
-fine_later : (old between now : Shown) → HasNoFault old between → HasNoFault between now → HasNoFault old now
+pub fine_later : (old between now : Shown) → HasNoFault old between → HasNoFault between now → HasNoFault old now
 fine_later old between now fine more = more ∙ fine
 
 -- ---- the loop
 
-prefix_more : (old between now : History) → IsPrefix old between → IsPrefix between now → IsPrefix old now
+pub prefix_more : (old between now : History) → IsPrefix old between → IsPrefix between now → IsPrefix old now
 prefix_more old between now (more, is) (later, comes) =
     (more ++ later, comes ∙ ap (λ (h : History). h ++ later) is ∙ append_assoc old more later)
 
@@ -35,7 +35,7 @@ pub grows_on : (old between now : Holding) → Grows old between → Grows betwe
 grows_on old between now grew grows =
     record { held = prefix_more old.held between.held now.held grew.held grows.held; stake = grows.stake ∙ grew.stake }
 
-grows_none : (vault : Holding) → Grows vault vault
+pub grows_none : (vault : Holding) → Grows vault vault
 grows_none vault = record { held = ([], sym (append-nil vault.held)); stake = refl }
 
 pub begins : (vault : Holding) (source sink : Shown) (machine : OwnMachine) → ((held : Holding) → IsServing (opening held) [] [] (over held machine)) → told machine.talk ≡ none

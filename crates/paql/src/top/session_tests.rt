@@ -8,8 +8,8 @@ use std::test::Fail;
 
 const CREATED: &str = "{\"status\":\"created\",\"version\":1}\n";
 
-const CREATED_AND_NOT_BUILT: &str =
-    "{\"status\":\"created\",\"version\":1}\n{\"error\":\"notbuilt\",\"status\":\"refused\"}\n";
+const CREATED_AND_NO_CERTIFICATE: &str =
+    "{\"status\":\"created\",\"version\":1}\n{\"error\":\"nocertificate\",\"status\":\"refused\"}\n";
 
 const CREATED_WITHOUT_HEADER: &str =
     "{\"status\":\"created\",\"version\":1}\n{\"error\":\"header\",\"status\":\"refused\"}\n";
@@ -28,7 +28,7 @@ LOAD T BYTES 12;a;'b';"c;--
 SELECT PACKAGE(T) AS P FROM T REPEAT 0 SUCH THAT SUM(P.v) <= 11 MAXIMIZE SUM(P.v);
 SELEC;
 SELECT PACKAGE(T) AS P FROM T REPEAT 0 SUCH THAT SUM(P.v) <= 5 AND COUNT(P.*) >= 1 MAXIMIZE SUM(P.v);
-LOAD T BYTES 2;;;CERTIFICATE;
+LOAD T BYTES 2;;;ROLLBACK;
 "#;
 
 const SCRIPT_REPLIES: &str = r#"{"status":"created","version":1}
@@ -39,7 +39,7 @@ const SCRIPT_REPLIES: &str = r#"{"status":"created","version":1}
 {"at":1,"error":"syntax","status":"refused"}
 {"objective":"5","package":[[2,1]],"status":"optimal","version":2}
 {"error":"header","status":"refused"}
-{"error":"notbuilt","status":"refused"}
+{"error":"notintransaction","status":"refused"}
 "#;
 
 // A session over memory: its bytes, the most that one read gives, and the number of the read and of the write that
@@ -162,7 +162,14 @@ fn faults_of_source_and_sink(rt: HostRuntime) -> Result<(), Fail> {
         (both, 4096, 0, 1, SessionEnd::WriteFault, ""),
         (both, 1, 0, 2, SessionEnd::WriteFault, CREATED),
         (both, 4096, 0, 2, SessionEnd::WriteFault, CREATED),
-        (both, 4096, 3, 3, SessionEnd::Done, CREATED_AND_NOT_BUILT),
+        (
+            both,
+            4096,
+            3,
+            3,
+            SessionEnd::Done,
+            CREATED_AND_NO_CERTIFICATE,
+        ),
         // No reply is owed, so that no call of the sink can fail.
         ("BEGIN", 4096, 0, 1, SessionEnd::Truncated, ""),
     ] {

@@ -127,7 +127,6 @@ fn statements_that_are_not_built(rt: HostRuntime) -> Result<(), Fail> {
     let one = queued(alloc, 1)?;
     let two = queued(alloc, 2)?;
     for statement in [
-        "CERTIFICATE;",
         "SELECT PACKAGE(T) AS P FROM T REPEAT 0 USING SKETCHREFINE;",
         "SELECT PACKAGE(T) AS P FROM T AT VERSION 9 REPEAT 0 USING SKETCHREFINE;",
     ] {

@@ -1,9 +1,5 @@
-use Rattle.std.proofs.Common.{rules}
-use Rattle.paql.specs.Status.{IsRun}
 use Rattle.paql.proofs.Starting.{without_memory}
 use Rattle.paql.proofs.top.paql_top.Goals as goal
 
-pub returns-in_default-clause-does : goal.returns-in_default-clause-does
-returns-in_default-clause-does g c =
-    let run : IsRun c.args.words.now = search rules in
-    without_memory c.args.words.now _ _ run
+pub returns-in_default-new-clause-does : goal.returns-in_default-new-clause-does
+returns-in_default-new-clause-does g c = without_memory c.in-Some.command c.args.words.now _ _ c.in-Some.ensures
